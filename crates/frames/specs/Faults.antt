@@ -1,0 +1,21 @@
+-- The denials of a frame: their numbers, their layer and their place. Assumes nothing.
+use Prim.Native.Nat.{ℕ}
+use Rattle.frames.specs.declared.fault.Flaw.{Flaw}
+use Rattle.frames.specs.declared.fault.Flaw.the-variants.{NotAdmitted, NotACall, WrongCount, WrongKind, OutOfRange}
+use Rattle.frames.specs.declared.fault.FrameFault.{FrameFault}
+
+-- the number of each denial
+abbrev pub flawNumber : Flaw → ℕ
+flawNumber NotAdmitted = 1
+flawNumber NotACall = 2
+flawNumber WrongCount = 3
+flawNumber WrongKind = 4
+flawNumber OutOfRange = 5
+
+-- all of them are of layer 1, the frame
+abbrev pub frameLayer : FrameFault → ℕ
+frameLayer f = 1
+
+-- a flaw, and the index of the word to blame
+abbrev pub blame : Flaw → ℕ → FrameFault
+blame f p = record { flaw = f; place = p }

@@ -1,0 +1,10 @@
+pub mod Words
+pub mod Faults
+pub mod Table
+pub mod Requests
+pub mod Decode
+pub mod Readers
+pub mod Walks
+pub mod Encode
+pub mod Ranges
+pub mod Theorems

@@ -55,15 +55,13 @@ fn explain(rt: &LibcRuntime) -> io::Result<()> {
 }
 
 fn run(rt: &LibcRuntime) -> Result<(), AnyError> {
-    match env::args(rt)?.nth(1) {
-        None => Ok(explain(rt)?),
-        Some(word) => {
-            if word.as_str() == "--help" {
-                return Ok(println!(rt, "{USAGE}")?);
-            }
-            Err(USAGE.into())
-        }
+    let Some(word) = env::args(rt)?.nth(1) else {
+        return Ok(explain(rt)?);
+    };
+    if word.as_str() == "--help" {
+        return Ok(println!(rt, "{USAGE}")?);
     }
+    Err("explain takes a listing on standard input, and no argument but --help".into())
 }
 
 fn main(rt: LibcRuntime) -> Result<(), AnyError> {

@@ -5,7 +5,7 @@ use Prim.Native.Nat.{ℕ, suc, _+_, _-_, _≤_, _<_}
 use native.Mathlib.Omega.{arith}
 use borrow.Rule.Slice.PartMut.{putMid}
 use lib.ListN.{length, getD, take, drop, set}
-use Rattle.std.proofs.shelf.Lists.{append-nil, append-assoc, drop-more, drop-drop, take-all, take-append-drop, take-more, length-take-le, length-append, set-at, drop-at, take-at}
+use Rattle.std.proofs.shelf.Lists.{append-assoc, drop-more, drop-drop, take-all, take-more, length-take-le, length-append, set-at, drop-at, take-at}
 use Rattle.frames.specs.Encode.{put}
 
 -- a copy into a part of the buffer
@@ -14,11 +14,6 @@ put-part a ws ys buffer e =
     let n : a + length ws - a ≡ length ws = omega arith in
     ap₂ (λ (k : ℕ) (zs : List ℕ). putMid a k buffer zs) n e
     ∙ ap (λ (zs : List ℕ). take a buffer ++ (ws ++ zs)) (drop-drop (length ws) a buffer)
-
-pub put-none : (a : ℕ) (buffer : List ℕ) → put a [] buffer ≡ buffer
-put-none a buffer =
-    let n : a + 0 ≡ a = omega arith in
-    ap (λ (k : ℕ). take a buffer ++ drop k buffer) n ∙ take-append-drop a buffer
 
 pub put-all : (a i : ℕ) (ws buffer : List ℕ) → length ws ≤ i → put a (take i ws) buffer ≡ put a ws buffer
 put-all a i ws buffer h = ap (λ (xs : List ℕ). put a xs buffer) (take-all i ws h)

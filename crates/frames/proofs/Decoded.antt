@@ -1,20 +1,19 @@
 -- What the steps of the decoder found is what the frame means. Assumes nothing.
 use mathlib.Core.Path.{_≡_, refl, sym, ap, ap₂, _∙_, subst}
 use mathlib.Core.List.{List, [], _∷_, _++_, map}
-use Prim.Native.Nat.{ℕ, zero, suc, _+_, _-_}
+use Prim.Native.Nat.{ℕ, zero, suc, _+_}
 use lib.ListN.{length, getD, take, drop, replicate}
 use Rattle.std.proofs.shelf.Lists.{drop-drop}
 use Rattle.std.specs.declared.result.Result.{Result}
 use Rattle.std.specs.declared.result.Result.the-variants.{Ok}
 use Rattle.std.specs.declared.option.Option.{Option}
-use Rattle.std.specs.declared.option.Option.the-variants.{None}
 use Rattle.frames.specs.declared.fault.FrameFault.{FrameFault}
 use Rattle.frames.specs.declared.table.Parameter.{Parameter}
 use Rattle.frames.specs.Words.{valueOf}
 use Rattle.frames.specs.Table.{parametersOf, arity}
 use Rattle.frames.specs.Requests.{Request}
 use Rattle.frames.specs.Decode.{bind, unless, orElse, argumentFault, callIn, requestOf, requestIn, spelled, pastEnd, pastRoom, decode}
-use Rattle.frames.specs.Walks.{padded, Walked}
+use Rattle.frames.specs.Walks.{Walked}
 use Rattle.frames.proofs.Outcomes.{none-from-ok}
 
 -- zeros behind a list change none of its values

@@ -1,5 +1,5 @@
 -- What the steps of the writer did is what the call's frame is. Assumes nothing.
-use mathlib.Core.Path.{_≡_, refl, sym, ap, ap₂, _∙_, subst}
+use mathlib.Core.Path.{_≡_, sym, ap, ap₂, _∙_, subst}
 use mathlib.Core.List.{List}
 use mathlib.Core.Bool.{Bool, true}
 use Prim.Native.Nat.{ℕ, _+_, _-_, _≤_}
@@ -14,7 +14,7 @@ use Rattle.frames.specs.declared.fault.Flaw.the-variants.{WrongCount}
 use Rattle.frames.specs.declared.fault.FrameFault.{FrameFault}
 use Rattle.frames.specs.declared.table.Parameter.{Parameter}
 use Rattle.frames.specs.Faults.{blame}
-use Rattle.frames.specs.Table.{parametersOf, arity, dataOf, takesData}
+use Rattle.frames.specs.Table.{parametersOf, dataOf, takesData}
 use Rattle.frames.specs.Requests.{Request, callNumber, argumentsOf, dataIn, replyWords}
 use Rattle.frames.specs.Decode.{unless, orElse, denyUnless, pastEnd, decode}
 use Rattle.frames.specs.Walks.{padded}

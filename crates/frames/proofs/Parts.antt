@@ -1,5 +1,5 @@
 -- Calls made of their parts, and taken apart again. Assumes nothing.
-use mathlib.Core.Path.{_≡_, refl, sym, ap, ap₂, _∙_}
+use mathlib.Core.Path.{_≡_, refl, sym, ap}
 use mathlib.Core.List.{List, [], _∷_, map}
 use mathlib.Core.Bool.{true}
 use Prim.Native.Nat.{ℕ, zero, suc, _≤_, _<_, _^_}
@@ -8,8 +8,8 @@ use lib.ListN.{length, getD}
 use Rattle.std.proofs.shelf.Bits.{mod-below}
 use Rattle.std.proofs.shelf.Lists.{nil-from-length}
 use Rattle.std.proofs.shelf.Tests.{eqb-true}
-use Rattle.frames.specs.Words.{valueOf, unsigned}
-use Rattle.frames.specs.Table.{within, amount, parametersOf, arity, dataOf, takesData}
+use Rattle.frames.specs.Words.{valueOf}
+use Rattle.frames.specs.Table.{parametersOf, arity, dataOf, takesData}
 use Rattle.frames.specs.Requests.{Request, create-segment, create-directory, make-known, terminate, read, write, truncate, delete, move-quota, status, quota, callNumber, argumentsOf, dataIn}
 use Rattle.frames.specs.Decode.{requestOf}
 use Rattle.frames.proofs.Numbers.{each-call}

@@ -4,9 +4,9 @@ use mathlib.Core.List.{List, [], _∷_, _++_, map}
 use mathlib.Core.Bool.{Bool, true, cond, _&&_}
 use Prim.Native.Nat.{ℕ, suc, _+_, _-_, _^_, _≤_, _<_}
 use native.Mathlib.Omega.{arith}
-use lib.Dec.{ltb, leb, lit≤}
+use lib.Dec.{ltb, lit≤}
 use lib.IntN.{ℤ, pos, negsuc}
-use lib.ListN.{length, take, drop, getD}
+use lib.ListN.{length, getD}
 use Rattle.std.proofs.shelf.Lists.{take-at, drop-at, length-append}
 use Rattle.std.proofs.shelf.Tests.{and-from, eq-eqb, le-leb, lt-ltb}
 use Rattle.std.proofs.shelf.Ways.{tells}
@@ -17,7 +17,7 @@ use Rattle.std.specs.declared.option.Option.the-variants.{None}
 use Rattle.frames.specs.declared.fault.Flaw.the-variants.{NotACall, WrongCount, WrongKind, OutOfRange}
 use Rattle.frames.specs.declared.fault.FrameFault.{FrameFault}
 use Rattle.frames.specs.declared.table.Parameter.{Parameter}
-use Rattle.frames.specs.Words.{kindOf, valueOf, wordOf, numberIn, countIn, headOf, unsigned}
+use Rattle.frames.specs.Words.{valueOf, wordOf, numberIn, countIn, headOf, unsigned}
 use Rattle.frames.specs.Faults.{blame}
 use Rattle.frames.specs.Table.{kindCode, within, parametersOf, arity, dataOf, takesData, takes}
 use Rattle.frames.specs.Requests.{Request, create-segment, create-directory, make-known, terminate, read, write, truncate, delete, move-quota, status, quota, callNumber, argumentsOf, dataIn, replyWords}

@@ -1,10 +1,6 @@
 -- What is left to show of `decode`.
-use mathlib.Core.Path.{_≡_, sym}
-use Rattle.std.specs.declared.result.Result.{Result}
-use Rattle.std.specs.declared.result.Result.the-variants.{Ok}
-use Rattle.frames.specs.declared.fault.FrameFault.{FrameFault}
-use Rattle.frames.specs.Requests.{Request, request}
-use Rattle.frames.specs.Decode.{decode}
+use mathlib.Core.Path.{sym}
+use Rattle.frames.specs.Requests.{request}
 use Rattle.frames.proofs.Decoded.{granted}
 use Rattle.frames.proofs.Frames.{decoded}
 use Rattle.frames.proofs.Ranges.{in-range}

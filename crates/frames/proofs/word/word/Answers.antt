@@ -2,7 +2,7 @@
 use lib.Bits.{bitAnd}
 use lib.Dec.{lit≤}
 use mathlib.Core.Path.{_≡_, _∙_, ap}
-use Prim.Native.Nat.{_+_, _*_, _%_, _^_, _<_}
+use Prim.Native.Nat.{_+_, _*_, _%_, _^_}
 use native.Mathlib.Omega.{arith}
 use Rattle.std.proofs.shelf.Bits.{and-mask}
 use Rattle.frames.proofs.Shifts.{beside}

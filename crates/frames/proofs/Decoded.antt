@@ -9,10 +9,10 @@ use Rattle.std.specs.declared.result.Result.the-variants.{Ok}
 use Rattle.std.specs.declared.option.Option.{Option}
 use Rattle.frames.specs.declared.fault.FrameFault.{FrameFault}
 use Rattle.frames.specs.declared.table.Parameter.{Parameter}
-use Rattle.frames.specs.Words.{valueOf}
-use Rattle.frames.specs.Table.{parametersOf, arity}
+use Rattle.frames.specs.Words.{value-of}
+use Rattle.frames.specs.Table.{parameters-of, arity}
 use Rattle.frames.specs.Requests.{Request}
-use Rattle.frames.specs.Decode.{bind, unless, orElse, argumentFault, callIn, requestOf, requestIn, spelled, pastEnd, pastRoom, decode}
+use Rattle.frames.specs.Decode.{bind, unless, or-else, argument-fault, call-in, request-of, request-in, spelled, past-end, past-room, decode}
 use Rattle.frames.specs.Walks.{Walked}
 use Rattle.frames.proofs.Outcomes.{none-from-ok}
 
@@ -29,8 +29,8 @@ behind-zeros (x ∷ xs) k (suc i) = behind-zeros xs k i
 
 -- what the decoder knows when it has read the words of a call q of number n: the reader began at place a of the frame b,
 -- and is now at place at of the frame g
-module _ (f b g : List ℕ) (n a at : ℕ) (ps : List Parameter) (vs ds : List ℕ) (q : Request) (named : Ok n ≡ callIn f) (shaped : ps ≡ parametersOf n) (lent : b ≡ f) (behind-head : a ≡ 1) (walked : Walked a ps (drop a b) (Ok vs)) (same : g ≡ b) (here : at ≡ a + length ps) (rest : ds ≡ drop at g) (asked : q ≡ requestOf n (λ i. getD vs i 0) ds) where
-  walked-so : Walked 1 (parametersOf n) (drop 1 f) (Ok vs)
+module _ (f b g : List ℕ) (n a at : ℕ) (ps : List Parameter) (vs ds : List ℕ) (q : Request) (named : Ok n ≡ call-in f) (shaped : ps ≡ parameters-of n) (lent : b ≡ f) (behind-head : a ≡ 1) (walked : Walked a ps (drop a b) (Ok vs)) (same : g ≡ b) (here : at ≡ a + length ps) (rest : ds ≡ drop at g) (asked : q ≡ request-of n (λ i. getD vs i 0) ds) where
+  walked-so : Walked 1 (parameters-of n) (drop 1 f) (Ok vs)
   walked-so =
       subst (λ (x : List Parameter). Walked 1 x (drop 1 f) (Ok vs)) shaped
       (subst (λ (k : ℕ). Walked k ps (drop k f) (Ok vs)) behind-head
@@ -42,20 +42,20 @@ module _ (f b g : List ℕ) (n a at : ℕ) (ps : List Parameter) (vs ds : List �
       let k : length ps ≡ arity n = ap length shaped in
       cc
 
-  values : (i : ℕ) → getD vs i 0 ≡ getD (map valueOf (take (arity n) (drop 1 f))) i 0
-  values i = ap (λ (xs : List ℕ). getD xs i 0) (walked-so .1) ∙ behind-zeros (map valueOf (take (arity n) (drop 1 f))) _ i
+  values : (i : ℕ) → getD vs i 0 ≡ getD (map value-of (take (arity n) (drop 1 f))) i 0
+  values i = ap (λ (xs : List ℕ). getD xs i 0) (walked-so .1) ∙ behind-zeros (map value-of (take (arity n) (drop 1 f))) _ i
 
-  asks : q ≡ requestIn n (drop 1 f)
-  asks = asked ∙ ap₂ (λ (v : ℕ → ℕ) (ws : List ℕ). requestOf n v ws) (λ j i. values i j) data-words
+  asks : q ≡ request-in n (drop 1 f)
+  asks = asked ∙ ap₂ (λ (v : ℕ → ℕ) (ws : List ℕ). request-of n v ws) (λ j i. values i j) data-words
 
   pub spells : Ok q ≡ spelled f
   spells =
       ap Ok asks
-      ∙ ap (λ (o : Option FrameFault). unless o (requestIn n (drop 1 f))) (sym (walked-so .0))
-      ∙ ap (λ r. bind r (λ m. unless (argumentFault 1 (parametersOf m) (drop 1 f)) (requestIn m (drop 1 f)))) named
+      ∙ ap (λ (o : Option FrameFault). unless o (request-in n (drop 1 f))) (sym (walked-so .0))
+      ∙ ap (λ r. bind r (λ m. unless (argument-fault 1 (parameters-of m) (drop 1 f)) (request-in m (drop 1 f)))) named
 
 -- a call that passes the last two tests is granted
-pub granted : (f : List ℕ) (room : ℕ) (q : Request) → Ok q ≡ spelled f → Ok tt ≡ unless {A = Unit {0}} (pastEnd q) tt → Ok tt ≡ unless {A = Unit {0}} (pastRoom q room) tt → decode f room ≡ Ok q
+pub granted : (f : List ℕ) (room : ℕ) (q : Request) → Ok q ≡ spelled f → Ok tt ≡ unless {A = Unit {0}} (past-end q) tt → Ok tt ≡ unless {A = Unit {0}} (past-room q room) tt → decode f room ≡ Ok q
 granted f room q s e r =
-    ap (λ (x : Result Request FrameFault). bind x (λ c. unless (orElse (pastEnd c) (pastRoom c room)) c)) (sym s)
-    ∙ ap₂ (λ (x y : Option FrameFault). unless (orElse x y) q) (none-from-ok (pastEnd q) e) (none-from-ok (pastRoom q room) r)
+    ap (λ (x : Result Request FrameFault). bind x (λ c. unless (or-else (past-end c) (past-room c room)) c)) (sym s)
+    ∙ ap₂ (λ (x y : Option FrameFault). unless (or-else x y) q) (none-from-ok (past-end q) e) (none-from-ok (past-room q room) r)

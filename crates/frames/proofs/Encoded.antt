@@ -14,11 +14,11 @@ use Rattle.frames.specs.declared.fault.Flaw.the-variants.{WrongCount}
 use Rattle.frames.specs.declared.fault.FrameFault.{FrameFault}
 use Rattle.frames.specs.declared.table.Parameter.{Parameter}
 use Rattle.frames.specs.Faults.{blame}
-use Rattle.frames.specs.Table.{parametersOf, dataOf, takesData}
-use Rattle.frames.specs.Requests.{Request, callNumber, argumentsOf, dataIn, replyWords}
-use Rattle.frames.specs.Decode.{unless, orElse, denyUnless, pastEnd, decode}
+use Rattle.frames.specs.Table.{parameters-of, data-of, takes-data}
+use Rattle.frames.specs.Requests.{Request, call-number, arguments-of, data-in, reply-words}
+use Rattle.frames.specs.Decode.{unless, or-else, deny-unless, past-end, decode}
 use Rattle.frames.specs.Walks.{padded}
-use Rattle.frames.specs.Encode.{frameOf, encode, valueFault, refusal, put, written}
+use Rattle.frames.specs.Encode.{frame-of, encode, value-fault, refusal, put, written}
 use Rattle.frames.proofs.Outcomes.{none-from-ok, some-from-err}
 use Rattle.frames.proofs.Ranges.{Passes, not-refused}
 use Rattle.frames.proofs.RoundTrip.{regular, encode-length, decodes}
@@ -27,7 +27,7 @@ use Rattle.frames.proofs.RoundTrip.{regular, encode-length, decodes}
 pub record Encoded (c : Request) (before after : List ℕ) (n : ℕ) : Type 0 where
   pub value : Ok n ≡ unless (refusal c (length before)) (length (encode c))
   pub buffer : after ≡ written (refusal c (length before)) (encode c) before
-  pub reads-back : (room : ℕ) → replyWords c ≤ room → decode (take n after) room ≡ Ok c
+  pub reads-back : (room : ℕ) → reply-words c ≤ room → decode (take n after) room ≡ Ok c
 
 encoded-so : (c : Request) (before after : List ℕ) (n : ℕ) → Passes c → n ≡ length (encode c) → n ≤ length before → after ≡ put 0 (encode c) before → Encoded c before after n
 encoded-so c before after n p long fits is =
@@ -40,38 +40,38 @@ encoded-so c before after n p long fits is =
     }
 
 -- the parts of a call c: its number n, the row of n in the table, the values in the order of the frame, and the data words
-module _ (c : Request) (n payload : ℕ) (ps : List Parameter) (vs ds : List ℕ) (number : n ≡ callNumber c) (parameters : ps ≡ parametersOf n) (most : payload ≡ dataOf n) (values : vs ≡ argumentsOf c) (words : ds ≡ dataIn c) where
-  same-parameters : ps ≡ parametersOf (callNumber c)
-  same-parameters = parameters ∙ ap parametersOf number
+module _ (c : Request) (n payload : ℕ) (ps : List Parameter) (vs ds : List ℕ) (number : n ≡ call-number c) (parameters : ps ≡ parameters-of n) (most : payload ≡ data-of n) (values : vs ≡ arguments-of c) (words : ds ≡ data-in c) where
+  same-parameters : ps ≡ parameters-of (call-number c)
+  same-parameters = parameters ∙ ap parameters-of number
 
-  same-count : takesData payload (length ds) ≡ takesData (dataOf (callNumber c)) (length (dataIn c))
-  same-count = ap₂ (λ (k : ℕ) (xs : List ℕ). takesData k (length xs)) (most ∙ ap dataOf number) words
+  same-count : takes-data payload (length ds) ≡ takes-data (data-of (call-number c)) (length (data-in c))
+  same-count = ap₂ (λ (k : ℕ) (xs : List ℕ). takes-data k (length xs)) (most ∙ ap data-of number) words
 
-  same-fault : valueFault 1 ps vs ≡ valueFault 1 (parametersOf (callNumber c)) (argumentsOf c)
-  same-fault = ap₂ (λ (qs : List Parameter) (xs : List ℕ). valueFault 1 qs xs) same-parameters values
+  same-fault : value-fault 1 ps vs ≡ value-fault 1 (parameters-of (call-number c)) (arguments-of c)
+  same-fault = ap₂ (λ (qs : List Parameter) (xs : List ℕ). value-fault 1 qs xs) same-parameters values
 
   same-length : (1 + length ps) + length ds ≡ length (encode c)
   same-length = let e = encode-length c in let w = ap length words in omega (arith, ap length same-parameters)
 
-  same-frame : frameOf n ps vs ds ≡ encode c
+  same-frame : frame-of n ps vs ds ≡ encode c
   same-frame =
-      ap₂ (λ (k : ℕ) (qs : List Parameter). frameOf k qs vs ds) number same-parameters
-      ∙ ap₂ (λ (xs ys : List ℕ). frameOf (callNumber c) (parametersOf (callNumber c)) xs ys) values words
+      ap₂ (λ (k : ℕ) (qs : List Parameter). frame-of k qs vs ds) number same-parameters
+      ∙ ap₂ (λ (xs ys : List ℕ). frame-of (call-number c) (parameters-of (call-number c)) xs ys) values words
 
   -- a value out of its range is the fault, where the data words are as they should be
-  pub denied-value : (room : ℕ) (x : FrameFault) → takesData payload (length ds) ≡ true → Err x ≡ unless {A = Unit {0}} (valueFault 1 ps vs) tt → refusal c room ≡ Some x
+  pub denied-value : (room : ℕ) (x : FrameFault) → takes-data payload (length ds) ≡ true → Err x ≡ unless {A = Unit {0}} (value-fault 1 ps vs) tt → refusal c room ≡ Some x
   denied-value room x t v =
-      ap₂ (λ (b : Bool) (o : Option FrameFault). orElse (denyUnless b (blame WrongCount 0)) (orElse o (orElse (pastEnd c) (denyUnless (leb (length (encode c)) room) (blame WrongCount 0))))) (sym same-count ∙ t) (sym same-fault ∙ some-from-err _ x v)
+      ap₂ (λ (b : Bool) (o : Option FrameFault). or-else (deny-unless b (blame WrongCount 0)) (or-else o (or-else (past-end c) (deny-unless (leb (length (encode c)) room) (blame WrongCount 0))))) (sym same-count ∙ t) (sym same-fault ∙ some-from-err _ x v)
 
-  pub encoded : (before after : List ℕ) → takesData payload (length ds) ≡ true → Ok tt ≡ unless {A = Unit {0}} (valueFault 1 ps vs) tt → Ok tt ≡ unless {A = Unit {0}} (pastEnd c) tt → (1 + length ps) + length ds ≤ length before → after ≡ put 0 (frameOf n ps vs ds) before → Encoded c before after ((1 + length ps) + length ds)
+  pub encoded : (before after : List ℕ) → takes-data payload (length ds) ≡ true → Ok tt ≡ unless {A = Unit {0}} (value-fault 1 ps vs) tt → Ok tt ≡ unless {A = Unit {0}} (past-end c) tt → (1 + length ps) + length ds ≤ length before → after ≡ put 0 (frame-of n ps vs ds) before → Encoded c before after ((1 + length ps) + length ds)
   encoded before after t v e fits is =
       encoded-so c before after ((1 + length ps) + length ds)
-      (record { counted = sym same-count ∙ t; valued = sym same-fault ∙ none-from-ok _ v; ended = none-from-ok (pastEnd c) e })
+      (record { counted = sym same-count ∙ t; valued = sym same-fault ∙ none-from-ok _ v; ended = none-from-ok (past-end c) e })
       same-length fits (is ∙ ap (λ (f : List ℕ). put 0 f before) same-frame)
 
 -- the part of the padded values that the code cuts out, `&values[0..n]`, is the values of the arguments
-pub values-are : (c : Request) (n : ℕ) (ps : List Parameter) (vs : List ℕ) → n ≡ callNumber c → ps ≡ parametersOf n → vs ≡ padded (argumentsOf c) → take (length ps - 0) vs ≡ argumentsOf c
+pub values-are : (c : Request) (n : ℕ) (ps : List Parameter) (vs : List ℕ) → n ≡ call-number c → ps ≡ parameters-of n → vs ≡ padded (arguments-of c) → take (length ps - 0) vs ≡ arguments-of c
 values-are c n ps vs number parameters values =
     let k : length ps - 0 ≡ length ps = omega arith in
     ap₂ (λ (j : ℕ) (xs : List ℕ). take j xs) k values
-    ∙ take-at (argumentsOf c) _ (length ps) (regular c .same ∙ sym (ap length (parameters ∙ ap parametersOf number)))
+    ∙ take-at (arguments-of c) _ (length ps) (regular c .same ∙ sym (ap length (parameters ∙ ap parameters-of number)))

@@ -8,7 +8,7 @@ use Rattle.std.specs.declared.result.Result.the-variants.{Ok, Err}
 use Rattle.std.specs.declared.option.Option.{Option}
 use Rattle.std.specs.declared.option.Option.the-variants.{Some, None}
 use Rattle.frames.specs.declared.fault.FrameFault.{FrameFault}
-use Rattle.frames.specs.Decode.{bind, unless, orElse, denyUnless, errOr}
+use Rattle.frames.specs.Decode.{bind, unless, or-else, deny-unless, err-or}
 
 pub never : {A : Type 0} → _≡_ {A = ℕ} 0 1 → A
 never e = let y : ⊥ = omega arith in absurd y
@@ -25,15 +25,15 @@ pub cond-ok : {A : Type 0} (b : Bool) (r : Result A FrameFault) (f : FrameFault)
 cond-ok true r f x e = (refl, e)
 cond-ok false r f x e = never cc
 
-pub or-else-none : (a b : Option FrameFault) → orElse a b ≡ None → (a ≡ None) × (b ≡ None)
+pub or-else-none : (a b : Option FrameFault) → or-else a b ≡ None → (a ≡ None) × (b ≡ None)
 or-else-none None b e = (refl, e)
 or-else-none (Some f) b e = never cc
 
-pub err-or-none : (r : Result ℕ FrameFault) (o : Option FrameFault) → errOr r o ≡ None → (v : ℕ) × (r ≡ Ok v) × (o ≡ None)
+pub err-or-none : (r : Result ℕ FrameFault) (o : Option FrameFault) → err-or r o ≡ None → (v : ℕ) × (r ≡ Ok v) × (o ≡ None)
 err-or-none (Ok v) o e = (v, refl, e)
 err-or-none (Err f) o e = never cc
 
-pub test-passed : (b : Bool) (f : FrameFault) → denyUnless b f ≡ None → b ≡ true
+pub test-passed : (b : Bool) (f : FrameFault) → deny-unless b f ≡ None → b ≡ true
 test-passed true f e = refl
 test-passed false f e = never cc
 

@@ -8,10 +8,10 @@ use lib.ListN.{length, getD}
 use Rattle.std.proofs.shelf.Bits.{mod-below}
 use Rattle.std.proofs.shelf.Lists.{nil-from-length}
 use Rattle.std.proofs.shelf.Tests.{eqb-true}
-use Rattle.frames.specs.Words.{valueOf}
-use Rattle.frames.specs.Table.{parametersOf, arity, dataOf, takesData}
-use Rattle.frames.specs.Requests.{Request, create-segment, create-directory, make-known, terminate, read, write, truncate, delete, move-quota, status, quota, callNumber, argumentsOf, dataIn}
-use Rattle.frames.specs.Decode.{requestOf}
+use Rattle.frames.specs.Words.{value-of}
+use Rattle.frames.specs.Table.{parameters-of, arity, data-of, takes-data}
+use Rattle.frames.specs.Requests.{Request, create-segment, create-directory, make-known, terminate, read, write, truncate, delete, move-quota, status, quota, call-number, arguments-of, data-in}
+use Rattle.frames.specs.Decode.{request-of}
 use Rattle.frames.proofs.Numbers.{each-call}
 use Rattle.frames.proofs.Words.{signed-unsigned, unsigned-signed}
 use Rattle.frames.proofs.Ranges.{Within}
@@ -28,18 +28,18 @@ listed-again (suc n) [] e = let z : ⊥ = omega arith in absurd z
 listed-again (suc n) (v ∷ vs) e = ap (λ (xs : List ℕ). v ∷ xs) (listed-again n vs (omega arith))
 
 -- a value has 28 bits
-pub value-small : (ws : List ℕ) (i : ℕ) → getD (map valueOf ws) i 0 < 2 ^ 28
+pub value-small : (ws : List ℕ) (i : ℕ) → getD (map value-of ws) i 0 < 2 ^ 28
 value-small [] i = omega arith
 value-small (w ∷ ws) zero = mod-below w (2 ^ 28) (omega arith)
 value-small (w ∷ ws) (suc i) = value-small ws i
 
-no-data : (ds : List ℕ) → takesData 0 (length ds) ≡ true → [] ≡ ds
+no-data : (ds : List ℕ) → takes-data 0 (length ds) ≡ true → [] ≡ ds
 no-data ds t = sym (nil-from-length ds (eqb-true _ _ t))
 
 -- a call that is made of a number, values and data words has these
 module _ (v : ℕ → ℕ) (ds : List ℕ) (small : v 2 < 2 ^ 28) where
   Made : ℕ → Type 0
-  Made n = takesData (dataOf n) (length ds) ≡ true → (callNumber (requestOf n v ds) ≡ n) × (argumentsOf (requestOf n v ds) ≡ listed (arity n) v) × (dataIn (requestOf n v ds) ≡ ds)
+  Made n = takes-data (data-of n) (length ds) ≡ true → (call-number (request-of n v ds) ≡ n) × (arguments-of (request-of n v ds) ≡ listed (arity n) v) × (data-in (request-of n v ds) ≡ ds)
 
   each-made : (n : ℕ) → 1 ≤ n → n ≤ 11 → Made n
   unfolding Made
@@ -57,12 +57,12 @@ module _ (v : ℕ → ℕ) (ds : List ℕ) (small : v 2 < 2 ^ 28) where
       (λ t. (refl, refl, no-data ds t))
       (λ t. (refl, refl, no-data ds t))
 
-  pub parts-are : (n : ℕ) → 1 ≤ n → n ≤ 11 → takesData (dataOf n) (length ds) ≡ true → (callNumber (requestOf n v ds) ≡ n) × (argumentsOf (requestOf n v ds) ≡ listed (arity n) v) × (dataIn (requestOf n v ds) ≡ ds)
+  pub parts-are : (n : ℕ) → 1 ≤ n → n ≤ 11 → takes-data (data-of n) (length ds) ≡ true → (call-number (request-of n v ds) ≡ n) × (arguments-of (request-of n v ds) ≡ listed (arity n) v) × (data-in (request-of n v ds) ≡ ds)
   unfolding Made
   parts-are = each-made
 
 -- and the parts of a call make it again, where its amount is one that 28 bits hold
-pub made-again : (c : Request) → Within (parametersOf (callNumber c)) (argumentsOf c) → requestOf (callNumber c) (λ i. getD (argumentsOf c) i 0) (dataIn c) ≡ c
+pub made-again : (c : Request) → Within (parameters-of (call-number c)) (arguments-of c) → request-of (call-number c) (λ i. getD (arguments-of c) i 0) (data-in c) ≡ c
 made-again (create-segment d e) w = refl
 made-again (create-directory d e s i g) w = refl
 made-again (make-known d e n) w = refl

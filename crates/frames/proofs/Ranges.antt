@@ -17,18 +17,18 @@ use Rattle.frames.specs.declared.fault.FrameFault.{FrameFault}
 use Rattle.frames.specs.declared.table.Parameter.{Parameter}
 use Rattle.frames.specs.Words.{unsigned}
 use Rattle.frames.specs.Faults.{blame}
-use Rattle.frames.specs.Table.{within, amount, parametersOf, dataOf, takesData}
-use Rattle.frames.specs.Requests.{Request, create-segment, create-directory, make-known, terminate, read, write, truncate, delete, move-quota, status, quota, callNumber, argumentsOf, dataIn}
-use Rattle.frames.specs.Decode.{orElse, denyUnless, pastEnd}
-use Rattle.frames.specs.Encode.{encode, valueFault, refusal}
+use Rattle.frames.specs.Table.{within, amount, parameters-of, data-of, takes-data}
+use Rattle.frames.specs.Requests.{Request, create-segment, create-directory, make-known, terminate, read, write, truncate, delete, move-quota, status, quota, call-number, arguments-of, data-in}
+use Rattle.frames.specs.Decode.{or-else, deny-unless, past-end}
+use Rattle.frames.specs.Encode.{encode, value-fault, refusal}
 use Rattle.frames.specs.Ranges.{Movable, In-range}
 use Rattle.frames.proofs.Outcomes.{or-else-none, test-passed}
 
 -- what the writer tests of a call, whatever the buffer
 pub record Passes (c : Request) : Type 0 where
-  pub counted : takesData (dataOf (callNumber c)) (length (dataIn c)) ≡ true
-  pub valued : valueFault 1 (parametersOf (callNumber c)) (argumentsOf c) ≡ None
-  pub ended : pastEnd c ≡ None
+  pub counted : takes-data (data-of (call-number c)) (length (data-in c)) ≡ true
+  pub valued : value-fault 1 (parameters-of (call-number c)) (arguments-of c) ≡ None
+  pub ended : past-end c ≡ None
 
 -- the values within their bounds, one by one
 abbrev pub Within : List Parameter → List ℕ → Type 0
@@ -36,18 +36,18 @@ Within [] vs = Unit {0}
 Within (p ∷ ps) [] = Unit {0}
 Within (p ∷ ps) (v ∷ vs) = (within p v ≡ true) × Within ps vs
 
-pub all-within : (n : ℕ) (ps : List Parameter) (vs : List ℕ) → valueFault n ps vs ≡ None → Within ps vs
+pub all-within : (n : ℕ) (ps : List Parameter) (vs : List ℕ) → value-fault n ps vs ≡ None → Within ps vs
 all-within n [] vs e = tt
 all-within n (p ∷ ps) [] e = tt
 all-within n (p ∷ ps) (v ∷ vs) e =
-    let b = or-else-none (denyUnless (within p v) (blame OutOfRange n)) (valueFault (suc n) ps vs) e in
+    let b = or-else-none (deny-unless (within p v) (blame OutOfRange n)) (value-fault (suc n) ps vs) e in
     (test-passed (within p v) (blame OutOfRange n) (b .0), all-within (suc n) ps vs (b .1))
 
-pub no-fault : (n : ℕ) (ps : List Parameter) (vs : List ℕ) → Within ps vs → valueFault n ps vs ≡ None
+pub no-fault : (n : ℕ) (ps : List Parameter) (vs : List ℕ) → Within ps vs → value-fault n ps vs ≡ None
 no-fault n [] vs w = refl
 no-fault n (p ∷ ps) [] w = refl
 no-fault n (p ∷ ps) (v ∷ vs) w =
-    ap₂ (λ (b : Bool) (o : Option FrameFault). orElse (denyUnless b (blame OutOfRange n)) o) (w .0) (no-fault (suc n) ps vs (w .1))
+    ap₂ (λ (b : Bool) (o : Option FrameFault). or-else (deny-unless b (blame OutOfRange n)) o) (w .0) (no-fault (suc n) ps vs (w .1))
 
 bounds : (a v b : ℕ) → (leb a v && leb v b) ≡ true → (a ≤ v) × (v ≤ b)
 bounds a v b e = let p = and-parts (leb a v) (leb v b) e in (leb-true a v (p .0), leb-true v b (p .1))
@@ -72,14 +72,14 @@ amount-within (pos zero) m = absurd (m .2 refl)
 amount-within (pos (suc n)) m = let high : suc n ≤ 256 = omega (arith, ints, m .1) in grind (arith, tells)
 amount-within (negsuc n) m = let high : n ≤ 255 = omega (arith, ints, m .0) in grind (arith, tells)
 
-ends : (a b : ℕ) (f : FrameFault) → denyUnless (leb a b) f ≡ None → a ≤ b
+ends : (a b : ℕ) (f : FrameFault) → deny-unless (leb a b) f ≡ None → a ≤ b
 ends a b f e = leb-true a b (test-passed (leb a b) f e)
 
-ends-so : (a b : ℕ) (f : FrameFault) → a ≤ b → denyUnless (leb a b) f ≡ None
-ends-so a b f h = ap (λ (t : Bool). denyUnless t f) (le-leb a b h)
+ends-so : (a b : ℕ) (f : FrameFault) → a ≤ b → deny-unless (leb a b) f ≡ None
+ends-so a b f h = ap (λ (t : Bool). deny-unless t f) (le-leb a b h)
 
 -- each argument that the writer admits is in its range
-ranged : (c : Request) → takesData (dataOf (callNumber c)) (length (dataIn c)) ≡ true → Within (parametersOf (callNumber c)) (argumentsOf c) → pastEnd c ≡ None → In-range c
+ranged : (c : Request) → takes-data (data-of (call-number c)) (length (data-in c)) ≡ true → Within (parameters-of (call-number c)) (arguments-of c) → past-end c ≡ None → In-range c
 ranged (create-segment d e) t w p = (bounds 0 d 15 (w .0) .1, bounds 0 e 15 (w .1 .0) .1)
 ranged (create-directory d e s i g) t w p = (
   bounds 0 d 15 (w .0) .1,
@@ -99,7 +99,7 @@ ranged (status d e) t w p = (bounds 0 d 15 (w .0) .1, bounds 0 e 15 (w .1 .0) .1
 ranged (quota d) t w p = bounds 0 d 15 (w .0) .1
 
 -- and each in its range is admitted
-admitted : (c : Request) → In-range c → (takesData (dataOf (callNumber c)) (length (dataIn c)) ≡ true) × Within (parametersOf (callNumber c)) (argumentsOf c) × (pastEnd c ≡ None)
+admitted : (c : Request) → In-range c → (takes-data (data-of (call-number c)) (length (data-in c)) ≡ true) × Within (parameters-of (call-number c)) (arguments-of c) × (past-end c ≡ None)
 admitted (create-segment d e) r = (refl, (at-most d 15 (r .0), (at-most e 15 (r .1), tt)), refl)
 admitted (create-directory d e s i g) r = (refl, (at-most d 15 (r .0), (at-most e 15 (r .1), (at-most s 0x0FFF_FFFF (omega (arith, r .2)), (at-most i 0x0FFF_FFFF (omega (arith, r .3)), (at-most g 256 (r .4), tt))))), refl)
 admitted (make-known d e n) r = (refl, (at-most d 15 (r .0), (at-most e 15 (r .1), (at-most n 15 (r .2), tt))), refl)
@@ -113,21 +113,21 @@ admitted (status d e) r = (refl, (at-most d 15 (r .0), (at-most e 15 (r .1), tt)
 admitted (quota d) r = (refl, (at-most d 15 r, tt), refl)
 
 pub in-range : (c : Request) → Passes c → In-range c
-in-range c p = ranged c (p .counted) (all-within 1 (parametersOf (callNumber c)) (argumentsOf c) (p .valued)) (p .ended)
+in-range c p = ranged c (p .counted) (all-within 1 (parameters-of (call-number c)) (arguments-of c) (p .valued)) (p .ended)
 
 pub passes : (c : Request) → In-range c → Passes c
 passes c r =
     let a = admitted c r in
-    record { counted = a .0; valued = no-fault 1 (parametersOf (callNumber c)) (argumentsOf c) (a .1); ended = a .2 }
+    record { counted = a .0; valued = no-fault 1 (parameters-of (call-number c)) (arguments-of c) (a .1); ended = a .2 }
 
 pub not-refused : (c : Request) (room : ℕ) → Passes c → length (encode c) ≤ room → refusal c room ≡ None
 not-refused c room p fits =
-    ap₂ (λ (b : Bool) (o : Option FrameFault). orElse (denyUnless b (blame WrongCount 0)) (orElse o (orElse (pastEnd c) (denyUnless (leb (length (encode c)) room) (blame WrongCount 0))))) (p .counted) (p .valued)
-    ∙ ap₂ (λ (o : Option FrameFault) (b : Bool). orElse o (denyUnless b (blame WrongCount 0))) (p .ended) (le-leb (length (encode c)) room fits)
+    ap₂ (λ (b : Bool) (o : Option FrameFault). or-else (deny-unless b (blame WrongCount 0)) (or-else o (or-else (past-end c) (deny-unless (leb (length (encode c)) room) (blame WrongCount 0))))) (p .counted) (p .valued)
+    ∙ ap₂ (λ (o : Option FrameFault) (b : Bool). or-else o (deny-unless b (blame WrongCount 0))) (p .ended) (le-leb (length (encode c)) room fits)
 
 pub passes-both : (c : Request) (room : ℕ) → refusal c room ≡ None → Passes c × (length (encode c) ≤ room)
 passes-both c room e =
-    let a = or-else-none (denyUnless (takesData (dataOf (callNumber c)) (length (dataIn c))) (blame WrongCount 0)) _ e in
-    let b = or-else-none (valueFault 1 (parametersOf (callNumber c)) (argumentsOf c)) _ (a .1) in
-    let d = or-else-none (pastEnd c) _ (b .1) in
+    let a = or-else-none (deny-unless (takes-data (data-of (call-number c)) (length (data-in c))) (blame WrongCount 0)) _ e in
+    let b = or-else-none (value-fault 1 (parameters-of (call-number c)) (arguments-of c)) _ (a .1) in
+    let d = or-else-none (past-end c) _ (b .1) in
     (record { counted = test-passed _ (blame WrongCount 0) (a .0); valued = b .0; ended = d .0 }, ends (length (encode c)) room (blame WrongCount 0) (d .1))

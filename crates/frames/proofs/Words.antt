@@ -5,28 +5,28 @@ use Prim.Native.Nat.{ℕ, _≤_, _<_, _^_}
 use native.Mathlib.Omega.{arith}
 use lib.IntN.{ℤ, pos, negsuc}
 use Rattle.std.proofs.shelf.Ways.{tells}
-use Rattle.frames.specs.Words.{kindOf, valueOf, wordOf, numberIn, countIn, headOf, signed, unsigned}
+use Rattle.frames.specs.Words.{kind-of, value-of, word-of, number-in, count-in, head-of, signed, unsigned}
 use Rattle.frames.specs.Table.{within, amount}
 
-pub kind-of-word : (k v : ℕ) → kindOf (wordOf k v) ≡ k
+pub kind-of-word : (k v : ℕ) → kind-of (word-of k v) ≡ k
 kind-of-word k v = omega arith
 
-pub value-of-word : (k v : ℕ) → v < 2 ^ 28 → valueOf (wordOf k v) ≡ v
+pub value-of-word : (k v : ℕ) → v < 2 ^ 28 → value-of (word-of k v) ≡ v
 value-of-word k v h = omega arith
 
-pub word-again : (k w : ℕ) → kindOf w ≡ k → wordOf k (valueOf w) ≡ w
+pub word-again : (k w : ℕ) → kind-of w ≡ k → word-of k (value-of w) ≡ w
 word-again k w e = omega arith
 
-pub kind-of-head : (n k : ℕ) → n ≤ 11 → k < 2 ^ 16 → kindOf (headOf n k) ≡ 8
+pub kind-of-head : (n k : ℕ) → n ≤ 11 → k < 2 ^ 16 → kind-of (head-of n k) ≡ 8
 kind-of-head n k h l = omega arith
 
-pub number-of-head : (n k : ℕ) → n ≤ 11 → k < 2 ^ 16 → numberIn (headOf n k) ≡ n
+pub number-of-head : (n k : ℕ) → n ≤ 11 → k < 2 ^ 16 → number-in (head-of n k) ≡ n
 number-of-head n k h l = omega arith
 
-pub count-of-head : (n k : ℕ) → n ≤ 11 → k < 2 ^ 16 → countIn (headOf n k) ≡ k
+pub count-of-head : (n k : ℕ) → n ≤ 11 → k < 2 ^ 16 → count-in (head-of n k) ≡ k
 count-of-head n k h l = omega arith
 
-pub head-again : (h n k : ℕ) → kindOf h ≡ 8 → numberIn h ≡ n → countIn h ≡ k → headOf n k ≡ h
+pub head-again : (h n k : ℕ) → kind-of h ≡ 8 → number-in h ≡ n → count-in h ≡ k → head-of n k ≡ h
 head-again h n k a b c = omega arith
 
 pub unsigned-signed : (v : ℕ) → v < 2 ^ 28 → unsigned (signed v) ≡ v

@@ -8,39 +8,39 @@ use Rattle.std.specs.declared.option.Option.the-variants.{Some, None}
 use Rattle.frames.specs.declared.fault.Flaw.the-variants.{WrongCount, OutOfRange}
 use Rattle.frames.specs.declared.fault.FrameFault.{FrameFault}
 use Rattle.frames.specs.declared.table.Parameter.{Parameter}
-use Rattle.frames.specs.Words.{wordOf, headOf}
+use Rattle.frames.specs.Words.{word-of, head-of}
 use Rattle.frames.specs.Faults.{blame}
-use Rattle.frames.specs.Table.{kindCode, within, parametersOf, dataOf, takesData}
-use Rattle.frames.specs.Requests.{Request, callNumber, argumentsOf, dataIn}
-use Rattle.frames.specs.Decode.{orElse, denyUnless, pastEnd}
+use Rattle.frames.specs.Table.{kind-code, within, parameters-of, data-of, takes-data}
+use Rattle.frames.specs.Requests.{Request, call-number, arguments-of, data-in}
+use Rattle.frames.specs.Decode.{or-else, deny-unless, past-end}
 
 -- a word for each argument
-abbrev pub argumentWords : List Parameter → List ℕ → List ℕ
-argumentWords [] vs = []
-argumentWords (p ∷ ps) [] = []
-argumentWords (p ∷ ps) (v ∷ vs) = wordOf (kindCode (p .kind)) v ∷ argumentWords ps vs
+abbrev pub argument-words : List Parameter → List ℕ → List ℕ
+argument-words [] vs = []
+argument-words (p ∷ ps) [] = []
+argument-words (p ∷ ps) (v ∷ vs) = word-of (kind-code (p .kind)) v ∷ argument-words ps vs
 
 -- head, arguments and data words
-abbrev pub frameOf : ℕ → List Parameter → List ℕ → List ℕ → List ℕ
-frameOf n ps vs words = headOf n (length ps + length words) ∷ (argumentWords ps vs ++ words)
+abbrev pub frame-of : ℕ → List Parameter → List ℕ → List ℕ → List ℕ
+frame-of n ps vs words = head-of n (length ps + length words) ∷ (argument-words ps vs ++ words)
 
 -- the frame of a call
 abbrev pub encode : Request → List ℕ
-encode c = frameOf (callNumber c) (parametersOf (callNumber c)) (argumentsOf c) (dataIn c)
+encode c = frame-of (call-number c) (parameters-of (call-number c)) (arguments-of c) (data-in c)
 
 -- the first value that is out of its range, from the word of that index on
-abbrev pub valueFault : ℕ → List Parameter → List ℕ → Option FrameFault
-valueFault place [] vs = None
-valueFault place (p ∷ ps) [] = None
-valueFault place (p ∷ ps) (v ∷ vs) = orElse (denyUnless (within p v) (blame OutOfRange place)) (valueFault (suc place) ps vs)
+abbrev pub value-fault : ℕ → List Parameter → List ℕ → Option FrameFault
+value-fault place [] vs = None
+value-fault place (p ∷ ps) [] = None
+value-fault place (p ∷ ps) (v ∷ vs) = or-else (deny-unless (within p v) (blame OutOfRange place)) (value-fault (suc place) ps vs)
 
 -- why a frame is not written into a buffer of `room` words: data words, values, word 255, and last the buffer
 abbrev pub refusal : Request → ℕ → Option FrameFault
 refusal c room =
-    orElse (denyUnless (takesData (dataOf (callNumber c)) (length (dataIn c))) (blame WrongCount 0))
-    (orElse (valueFault 1 (parametersOf (callNumber c)) (argumentsOf c))
-    (orElse (pastEnd c)
-    (denyUnless (leb (length (encode c)) room) (blame WrongCount 0))))
+    or-else (deny-unless (takes-data (data-of (call-number c)) (length (data-in c))) (blame WrongCount 0))
+    (or-else (value-fault 1 (parameters-of (call-number c)) (arguments-of c))
+    (or-else (past-end c)
+    (deny-unless (leb (length (encode c)) room) (blame WrongCount 0))))
 
 -- a buffer with words put into it from a place on
 abbrev pub put : ℕ → List ℕ → List ℕ → List ℕ

@@ -5,16 +5,16 @@ use Rattle.frames.specs.declared.fault.Flaw.the-variants.{NotAdmitted, NotACal
 use Rattle.frames.specs.declared.fault.FrameFault.{FrameFault}
 
 -- the number of each denial
-abbrev pub flawNumber : Flaw → ℕ
-flawNumber NotAdmitted = 1
-flawNumber NotACall = 2
-flawNumber WrongCount = 3
-flawNumber WrongKind = 4
-flawNumber OutOfRange = 5
+abbrev pub flaw-number : Flaw → ℕ
+flaw-number NotAdmitted = 1
+flaw-number NotACall = 2
+flaw-number WrongCount = 3
+flaw-number WrongKind = 4
+flaw-number OutOfRange = 5
 
 -- all of them are of layer 1, the frame
-abbrev pub frameLayer : FrameFault → ℕ
-frameLayer f = 1
+abbrev pub frame-layer : FrameFault → ℕ
+frame-layer f = 1
 
 -- a flaw, and the index of the word to blame
 abbrev pub blame : Flaw → ℕ → FrameFault

@@ -42,38 +42,38 @@ pub record Parts : Type 0 where
 abbrev pub parts : ℕ → List ℕ → List ℕ → Parts
 parts n vs ws = record { number = n; arguments = vs; words = ws }
 
-abbrev pub partsOf : Request → Parts
-partsOf (create-segment d e) = parts 1 (d ∷ e ∷ []) []
-partsOf (create-directory d e security integrity grant) = parts 2 (d ∷ e ∷ security ∷ integrity ∷ grant ∷ []) []
-partsOf (make-known d e n) = parts 3 (d ∷ e ∷ n ∷ []) []
-partsOf (terminate n) = parts 4 (n ∷ []) []
-partsOf (read s first count) = parts 5 (s ∷ first ∷ count ∷ []) []
-partsOf (write s first words) = parts 6 (s ∷ first ∷ []) words
-partsOf (truncate s keep) = parts 7 (s ∷ keep ∷ []) []
-partsOf (delete d e) = parts 8 (d ∷ e ∷ []) []
-partsOf (move-quota d e amount) = parts 9 (d ∷ e ∷ unsigned amount ∷ []) []
-partsOf (status d e) = parts 10 (d ∷ e ∷ []) []
-partsOf (quota d) = parts 11 (d ∷ []) []
+abbrev pub parts-of : Request → Parts
+parts-of (create-segment d e) = parts 1 (d ∷ e ∷ []) []
+parts-of (create-directory d e security integrity grant) = parts 2 (d ∷ e ∷ security ∷ integrity ∷ grant ∷ []) []
+parts-of (make-known d e n) = parts 3 (d ∷ e ∷ n ∷ []) []
+parts-of (terminate n) = parts 4 (n ∷ []) []
+parts-of (read s first count) = parts 5 (s ∷ first ∷ count ∷ []) []
+parts-of (write s first words) = parts 6 (s ∷ first ∷ []) words
+parts-of (truncate s keep) = parts 7 (s ∷ keep ∷ []) []
+parts-of (delete d e) = parts 8 (d ∷ e ∷ []) []
+parts-of (move-quota d e amount) = parts 9 (d ∷ e ∷ unsigned amount ∷ []) []
+parts-of (status d e) = parts 10 (d ∷ e ∷ []) []
+parts-of (quota d) = parts 11 (d ∷ []) []
 
-abbrev pub callNumber : Request → ℕ
-callNumber c = partsOf c .number
+abbrev pub call-number : Request → ℕ
+call-number c = parts-of c .number
 
-abbrev pub argumentsOf : Request → List ℕ
-argumentsOf c = partsOf c .arguments
+abbrev pub arguments-of : Request → List ℕ
+arguments-of c = parts-of c .arguments
 
-abbrev pub dataIn : Request → List ℕ
-dataIn c = partsOf c .words
+abbrev pub data-in : Request → List ℕ
+data-in c = parts-of c .words
 
 -- how many words of the reply buffer a call fills: a read its count, and any other call none
-abbrev pub replyWords : Request → ℕ
-replyWords (create-segment d e) = 0
-replyWords (create-directory d e security integrity grant) = 0
-replyWords (make-known d e n) = 0
-replyWords (terminate n) = 0
-replyWords (read s first count) = count
-replyWords (write s first words) = 0
-replyWords (truncate s keep) = 0
-replyWords (delete d e) = 0
-replyWords (move-quota d e amount) = 0
-replyWords (status d e) = 0
-replyWords (quota d) = 0
+abbrev pub reply-words : Request → ℕ
+reply-words (create-segment d e) = 0
+reply-words (create-directory d e security integrity grant) = 0
+reply-words (make-known d e n) = 0
+reply-words (terminate n) = 0
+reply-words (read s first count) = count
+reply-words (write s first words) = 0
+reply-words (truncate s keep) = 0
+reply-words (delete d e) = 0
+reply-words (move-quota d e amount) = 0
+reply-words (status d e) = 0
+reply-words (quota d) = 0

@@ -9,26 +9,26 @@ use Rattle.frames.specs.declared.table.Kind.the-variants.{KnownNumber, Place, 
 use Rattle.frames.specs.declared.table.Parameter.{Parameter}
 
 -- the top 4 bits of an argument
-abbrev pub kindCode : Kind → ℕ
-kindCode KnownNumber = 1
-kindCode Place = 2
-kindCode Count = 3
-kindCode Amount = 4
-kindCode Security = 5
-kindCode Integrity = 6
+abbrev pub kind-code : Kind → ℕ
+kind-code KnownNumber = 1
+kind-code Place = 2
+kind-code Count = 3
+kind-code Amount = 4
+kind-code Security = 5
+kind-code Integrity = 6
 
 -- what the bounds of a kind hold of: the value, or the distance of a signed amount from 0
-abbrev pub sizeOf : Kind → ℕ → ℕ
-sizeOf KnownNumber v = v
-sizeOf Place v = v
-sizeOf Count v = v
-sizeOf Amount v = cond (ltb v (2 ^ 27)) v (2 ^ 28 - v)
-sizeOf Security v = v
-sizeOf Integrity v = v
+abbrev pub size-of : Kind → ℕ → ℕ
+size-of KnownNumber v = v
+size-of Place v = v
+size-of Count v = v
+size-of Amount v = cond (ltb v (2 ^ 27)) v (2 ^ 28 - v)
+size-of Security v = v
+size-of Integrity v = v
 
 -- whether a value lies within the bounds
 abbrev pub within : Parameter → ℕ → Bool
-within p v = leb (p .least) (sizeOf (p .kind) v) && leb (sizeOf (p .kind) v) (p .most)
+within p v = leb (p .least) (size-of (p .kind) v) && leb (size-of (p .kind) v) (p .most)
 
 abbrev pub parameter : Kind → ℕ → ℕ → Parameter
 parameter k low high = record { kind = k; least = low; most = high }
@@ -88,22 +88,22 @@ rows =
     ∷ row (known ∷ []) 0
     ∷ []
 
-abbrev pub rowOf : ℕ → Row
-rowOf n = getD rows (n - 1) (row [] 0)
+abbrev pub row-of : ℕ → Row
+row-of n = getD rows (n - 1) (row [] 0)
 
-abbrev pub parametersOf : ℕ → List Parameter
-parametersOf n = rowOf n .parameters
+abbrev pub parameters-of : ℕ → List Parameter
+parameters-of n = row-of n .parameters
 
 abbrev pub arity : ℕ → ℕ
-arity n = length (parametersOf n)
+arity n = length (parameters-of n)
 
-abbrev pub dataOf : ℕ → ℕ
-dataOf n = rowOf n .payload
+abbrev pub data-of : ℕ → ℕ
+data-of n = row-of n .payload
 
 -- whether a call with at most so many data words takes n of them: one at least, where it takes any
-abbrev pub takesData : ℕ → ℕ → Bool
-takesData most n = cond (eqb most 0) (eqb n 0) (leb 1 n && leb n most)
+abbrev pub takes-data : ℕ → ℕ → Bool
+takes-data most n = cond (eqb most 0) (eqb n 0) (leb 1 n && leb n most)
 
 -- whether a call with so many arguments and at most so many data words takes n words behind its head
 abbrev pub takes : ℕ → ℕ → ℕ → Bool
-takes arguments most n = leb arguments n && takesData most (n - arguments)
+takes arguments most n = leb arguments n && takes-data most (n - arguments)

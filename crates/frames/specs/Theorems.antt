@@ -8,19 +8,19 @@ use Rattle.std.specs.declared.result.Result.the-variants.{Ok, Err}
 use Rattle.std.specs.declared.option.Option.the-variants.{None}
 use Rattle.frames.specs.declared.fault.Flaw.the-variants.{OutOfRange}
 use Rattle.frames.specs.Faults.{blame}
-use Rattle.frames.specs.Words.{valueOf, signed}
-use Rattle.frames.specs.Requests.{Request, read, move-quota, replyWords}
+use Rattle.frames.specs.Words.{value-of, signed}
+use Rattle.frames.specs.Requests.{Request, read, move-quota, reply-words}
 use Rattle.frames.specs.Decode.{decode}
 use Rattle.frames.specs.Encode.{encode, refusal}
 use Rattle.frames.specs.Ranges.{In-range}
 
 -- a decoded call is in range, and its words fit into the reply buffer
 abbrev pub Decodes-in-range : Type 0
-Decodes-in-range = (frame : List ℕ) (room : ℕ) (c : Request) → decode frame room ≡ Ok c → In-range c × (replyWords c ≤ room)
+Decodes-in-range = (frame : List ℕ) (room : ℕ) (c : Request) → decode frame room ≡ Ok c → In-range c × (reply-words c ≤ room)
 
 -- the frame of a call in range reads back as that call, with every reply buffer that its words fit into
 abbrev pub Reads-back : Type 0
-Reads-back = (c : Request) (room : ℕ) → In-range c → replyWords c ≤ room → decode (encode c) room ≡ Ok c
+Reads-back = (c : Request) (room : ℕ) → In-range c → reply-words c ≤ room → decode (encode c) room ≡ Ok c
 
 -- the writer refuses exactly the calls out of range and the short buffers
 pub record Refuses-exactly : Type 0 where
@@ -40,7 +40,7 @@ reading v w = 0x80050003 ∷ 0x10000000 ∷ v ∷ w ∷ []
 
 -- the edges of amounts and of reads
 pub record Frame-edges : Type 0 where
-  pub minus-one : signed (valueOf 0x4FFFFFFF) ≡ negsuc 0
+  pub minus-one : signed (value-of 0x4FFFFFFF) ≡ negsuc 0
   pub moves-minus-one : decode (moving 0x4FFFFFFF) 16 ≡ Ok (move-quota 0 0 (negsuc 0))
   pub least-amount : decode (moving 0x4FFFFF00) 16 ≡ Ok (move-quota 0 0 (negsuc 255))
   pub below-least : decode (moving 0x4FFFFEFF) 16 ≡ Err (blame OutOfRange 3)

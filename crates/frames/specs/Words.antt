@@ -5,28 +5,28 @@ use lib.Dec.{ltb}
 use lib.IntN.{ℤ, pos, negsuc}
 
 -- the top 4 bits are the kind
-abbrev pub kindOf : ℕ → ℕ
-kindOf w = w / 2 ^ 28
+abbrev pub kind-of : ℕ → ℕ
+kind-of w = w / 2 ^ 28
 
 -- and the low 28 the value
-abbrev pub valueOf : ℕ → ℕ
-valueOf w = w % 2 ^ 28
+abbrev pub value-of : ℕ → ℕ
+value-of w = w % 2 ^ 28
 
 -- a word of a kind and a value
-abbrev pub wordOf : ℕ → ℕ → ℕ
-wordOf kind value = kind * 2 ^ 28 + valueOf value
+abbrev pub word-of : ℕ → ℕ → ℕ
+word-of kind value = kind * 2 ^ 28 + value-of value
 
 -- in a head the 12 bits below the kind are the call
-abbrev pub numberIn : ℕ → ℕ
-numberIn h = h / 2 ^ 16 % 2 ^ 12
+abbrev pub number-in : ℕ → ℕ
+number-in h = h / 2 ^ 16 % 2 ^ 12
 
 -- and the low 16 the count of words that follow
-abbrev pub countIn : ℕ → ℕ
-countIn h = h % 2 ^ 16
+abbrev pub count-in : ℕ → ℕ
+count-in h = h % 2 ^ 16
 
 -- the head of a call with so many words to follow: its kind is 8
-abbrev pub headOf : ℕ → ℕ → ℕ
-headOf number count = 8 * 2 ^ 28 + (number * 2 ^ 16 + count)
+abbrev pub head-of : ℕ → ℕ → ℕ
+head-of number count = 8 * 2 ^ 28 + (number * 2 ^ 16 + count)
 
 -- 28 bits as a signed amount, in two's complement
 abbrev pub signed : ℕ → ℤ

@@ -3,8 +3,8 @@ ghost use mathlib.Core.Path.{_≡_};
 ghost use Prim.Native.Nat.{_^_, _<_, _≤_};
 ghost use lib.ListN.{getD};
 ghost use Rattle.std.specs.Vec.{made};
-ghost use Rattle.frames.specs.Requests.{request, replyWords};
-ghost use Rattle.frames.specs.Decode.{callIn, requestOf, spelled, pastEnd, pastRoom, unless, mapOk, decode};
+ghost use Rattle.frames.specs.Requests.{request, reply-words};
+ghost use Rattle.frames.specs.Decode.{call-in, request-of, spelled, past-end, past-room, unless, map-ok, decode};
 ghost use Rattle.frames.specs.Encode.{encode};
 ghost use Rattle.frames.specs.Ranges.{In-range};
 use crate::call::Call;
@@ -21,7 +21,7 @@ const SEGMENT_WORDS: usize = 256;
 
 /// The number of the call that a frame's head names, where as many words follow as the head says and the call takes.
 fn call_number(frame: &[u32]) -> Result<usize, FrameFault>
-    ensures { λ r. ⌜ r ≡ callIn (now (frame .entry)) ⌝ }
+    ensures { λ r. ⌜ r ≡ call-in (now (frame .entry)) ⌝ }
 {
     let [head, words @ ..] = frame else {
         return Err(Flaw::NotACall.at(0));
@@ -39,7 +39,7 @@ fn call_number(frame: &[u32]) -> Result<usize, FrameFault>
 /// The call of a number, with its values from index 0 on and its data words.
 fn assemble<'a>(number: usize, values: [u32; MOST_ARGUMENTS], words: &'a [u32]) -> Call<'a>
     requires { ⌜ 1 ≤ number ⌝ ∗ ⌜ number ≤ 11 ⌝ ∗ ⌜ (number ≡ 9 → getD values 2 0 < 2 ^ 28) ⌝ }
-    ensures { λ r. ⌜ request r ≡ requestOf number (λ i. getD values i 0) (now (words .entry)) ⌝ }
+    ensures { λ r. ⌜ request r ≡ request-of number (λ i. getD values i 0) (now (words .entry)) ⌝ }
 {
     match number {
         1 => Call::CreateSegment {
@@ -94,7 +94,7 @@ fn assemble<'a>(number: usize, values: [u32; MOST_ARGUMENTS], words: &'a [u32]) 
 
 /// The call that the words of a frame spell: its head, then its arguments, and what is left as data words.
 fn read_call<'a>(frame: &'a [u32]) -> Result<Call<'a>, FrameFault>
-    ensures { λ r. ⌜ mapOk request r ≡ spelled (now (frame .entry)) ⌝ }
+    ensures { λ r. ⌜ map-ok request r ≡ spelled (now (frame .entry)) ⌝ }
 {
     let number = call_number(frame)?;
     let mut reader = Reader::behind_head(frame);
@@ -104,7 +104,7 @@ fn read_call<'a>(frame: &'a [u32]) -> Result<Call<'a>, FrameFault>
 
 /// Denies a read or a write that passes the last word of its segment.
 pub(crate) fn check_end(call: Call<'_>) -> Result<(), FrameFault>
-    ensures { λ r. ⌜ r ≡ unless (pastEnd (request (call .entry))) tt ⌝ }
+    ensures { λ r. ⌜ r ≡ unless (past-end (request (call .entry))) tt ⌝ }
 {
     match call {
         Call::Read { first, count, .. } => {
@@ -125,7 +125,7 @@ pub(crate) fn check_end(call: Call<'_>) -> Result<(), FrameFault>
 
 /// Denies a read of more words than the reply buffer has.
 fn check_room(call: Call<'_>, room: usize) -> Result<(), FrameFault>
-    ensures { λ r. ⌜ r ≡ unless (pastRoom (request (call .entry)) room) tt ⌝ }
+    ensures { λ r. ⌜ r ≡ unless (past-room (request (call .entry)) room) tt ⌝ }
 {
     match call {
         Call::Read { count, .. } if count as usize > room => Err(Flaw::OutOfRange.at(3)),
@@ -136,8 +136,8 @@ fn check_room(call: Call<'_>, room: usize) -> Result<(), FrameFault>
 /// The call that a frame asks for, or why it is denied, with a reply buffer of `room` words. A call comes in range,
 /// with room for the words that it reads, and from no other frame.
 pub fn decode<'a>(frame: &'a [u32], room: usize) -> Result<Call<'a>, FrameFault>
-    ensures value { λ r. ⌜ mapOk request r ≡ decode (now (frame .entry)) room ⌝ }
-    ensures in_range { λ r. ⌜ made r (λ call. In-range (request call) × (replyWords (request call) ≤ room)) ⌝ }
+    ensures value { λ r. ⌜ map-ok request r ≡ decode (now (frame .entry)) room ⌝ }
+    ensures in_range { λ r. ⌜ made r (λ call. In-range (request call) × (reply-words (request call) ≤ room)) ⌝ }
     ensures own_frame { λ r. ⌜ made r (λ call. now (frame .entry) ≡ encode (request call)) ⌝ }
 {
     let call = read_call(frame)?;

@@ -5,10 +5,10 @@ ghost use Prim.Native.Nat.{ℕ, _+_, _^_, _<_, _≤_};
 ghost use lib.ListN.{length, take};
 ghost use Rattle.std.specs.Vec.{made};
 ghost use Rattle.std.specs.declared.result.Result.the-variants.{Ok};
-ghost use Rattle.frames.specs.Requests.{request, callNumber, argumentsOf, dataIn, replyWords};
+ghost use Rattle.frames.specs.Requests.{request, call-number, arguments-of, data-in, reply-words};
 ghost use Rattle.frames.specs.Decode.{unless, decode};
 ghost use Rattle.frames.specs.Walks.{padded};
-ghost use Rattle.frames.specs.Encode.{argumentWords, frameOf, encode, valueFault, refusal, put, written};
+ghost use Rattle.frames.specs.Encode.{argument-words, frame-of, encode, value-fault, refusal, put, written};
 use crate::call::Call;
 use crate::decoder::check_end;
 use crate::fault::Flaw;
@@ -41,9 +41,9 @@ fn no_data<'a>(number: usize, values: [u32; MOST_ARGUMENTS]) -> Parts<'a>
 
 /// Takes a call apart.
 fn take_apart<'a>(call: Call<'a>) -> Parts<'a>
-    ensures number { λ r. ⌜ r .number ≡ callNumber (request (call .entry)) ⌝ }
-    ensures values { λ r. ⌜ r .values ≡ padded (argumentsOf (request (call .entry))) ⌝ }
-    ensures words { λ r. ⌜ now (r .words) ≡ dataIn (request (call .entry)) ⌝ }
+    ensures number { λ r. ⌜ r .number ≡ call-number (request (call .entry)) ⌝ }
+    ensures values { λ r. ⌜ r .values ≡ padded (arguments-of (request (call .entry))) ⌝ }
+    ensures words { λ r. ⌜ now (r .words) ≡ data-in (request (call .entry)) ⌝ }
 {
     match call {
         Call::CreateSegment { directory, entry } => no_data(1, [directory, entry, 0, 0, 0]),
@@ -89,7 +89,7 @@ fn take_apart<'a>(call: Call<'a>) -> Parts<'a>
 /// Denies the first value that is out of its range.
 fn check_values(parameters: &[Parameter], values: &[u32]) -> Result<(), FrameFault>
     requires { ⌜ length (now values) ≡ length (now parameters) ⌝ }
-    ensures { λ r. ⌜ r ≡ unless (valueFault 1 (now (parameters .entry)) (now (values .entry))) tt ⌝ }
+    ensures { λ r. ⌜ r ≡ unless (value-fault 1 (now (parameters .entry)) (now (values .entry))) tt ⌝ }
 {
     for (i, parameter) in parameters.iter().enumerate() {
         if !parameter.admits(values[i]) {
@@ -102,7 +102,7 @@ fn check_values(parameters: &[Parameter], values: &[u32]) -> Result<(), FrameFau
 /// Puts the arguments behind the head.
 fn put_arguments(parameters: &[Parameter], values: &[u32], buffer: &mut [u32])
     requires { ⌜ length (now values) ≡ length (now parameters) ⌝ ∗ ⌜ 1 + length (now parameters) ≤ length (now buffer) ⌝ }
-    ensures { λ _. ⌜ now (buffer .exit) ≡ put 1 (argumentWords (now (parameters .entry)) (now (values .entry))) (now (buffer .entry)) ⌝ }
+    ensures { λ _. ⌜ now (buffer .exit) ≡ put 1 (argument-words (now (parameters .entry)) (now (values .entry))) (now (buffer .entry)) ⌝ }
 {
     for (i, parameter) in parameters.iter().enumerate() {
         buffer[1 + i] = word::word(parameter.kind.code(), values[i]);
@@ -122,7 +122,7 @@ fn fill(number: usize, parameters: &[Parameter], values: &[u32], words: &[u32], 
     requires { ⌜ number < 2 ^ 12 ⌝ ∗ ⌜ length (now parameters) + length (now words) < 2 ^ 16 ⌝ }
     requires { ⌜ length (now values) ≡ length (now parameters) ⌝ }
     requires { ⌜ (1 + length (now parameters)) + length (now words) ≤ length (now buffer) ⌝ }
-    ensures { λ _. ⌜ now (buffer .exit) ≡ put 0 (frameOf number (now (parameters .entry)) (now (values .entry)) (now (words .entry))) (now (buffer .entry)) ⌝ }
+    ensures { λ _. ⌜ now (buffer .exit) ≡ put 0 (frame-of number (now (parameters .entry)) (now (values .entry)) (now (words .entry))) (now (buffer .entry)) ⌝ }
 {
     buffer[0] = word::head(number as u32, (parameters.len() + words.len()) as u32);
     put_arguments(parameters, values, buffer);
@@ -134,7 +134,7 @@ fn fill(number: usize, parameters: &[Parameter], values: &[u32], words: &[u32], 
 pub fn encode(call: Call<'_>, buffer: &mut [u32]) -> Result<usize, FrameFault>
     ensures value { λ r. ⌜ r ≡ unless (refusal (request (call .entry)) (length (now (buffer .entry)))) (length (encode (request (call .entry)))) ⌝ }
     ensures buffer { λ _. ⌜ now (buffer .exit) ≡ written (refusal (request (call .entry)) (length (now (buffer .entry)))) (encode (request (call .entry))) (now (buffer .entry)) ⌝ }
-    ensures reads_back { λ r. ⌜ made r (λ n. (room : ℕ) → replyWords (request (call .entry)) ≤ room → decode (take n (now (buffer .exit))) room ≡ Ok (request (call .entry))) ⌝ }
+    ensures reads_back { λ r. ⌜ made r (λ n. (room : ℕ) → reply-words (request (call .entry)) ≤ room → decode (take n (now (buffer .exit))) room ≡ Ok (request (call .entry))) ⌝ }
 {
     let Parts {
         number,

@@ -1,6 +1,6 @@
 //! Why a frame is denied, and which of its words is to blame.
 ghost use mathlib.Core.Path.{_≡_};
-ghost use Rattle.frames.specs.Faults.{flawNumber, frameLayer, blame};
+ghost use Rattle.frames.specs.Faults.{flaw-number, frame-layer, blame};
 
 /// What is wrong with a frame, in the order in which it is tested.
 #[derive(Clone, Copy, PartialEq, Eq, Debug)]
@@ -20,7 +20,7 @@ pub enum Flaw {
 impl Flaw {
     /// The number of the denial.
     pub fn number(self) -> u32
-        ensures { λ r. ⌜ r ≡ flawNumber self ⌝ }
+        ensures { λ r. ⌜ r ≡ flaw-number self ⌝ }
     {
         match self {
             Flaw::NotAdmitted => 1,
@@ -49,7 +49,7 @@ pub struct FrameFault {
 impl FrameFault {
     /// The layer that denies: frames are layer 1.
     pub fn layer(self) -> u32
-        ensures { λ r. ⌜ r ≡ frameLayer self ⌝ }
+        ensures { λ r. ⌜ r ≡ frame-layer self ⌝ }
     {
         1
     }

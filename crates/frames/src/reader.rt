@@ -3,7 +3,7 @@ ghost use mathlib.Core.Path.{_≡_};
 ghost use Prim.Native.Nat.{_≤_};
 ghost use lib.ListN.{length};
 ghost use Rattle.std.specs.Vec.{made};
-ghost use Rattle.frames.specs.Words.{kindOf, valueOf};
+ghost use Rattle.frames.specs.Words.{kind-of, value-of};
 ghost use Rattle.frames.specs.Decode.{argument};
 ghost use Rattle.frames.specs.Readers.{next, unread, Holds, Moved};
 ghost use Rattle.frames.specs.Walks.{Walked};
@@ -39,8 +39,8 @@ impl<'a> Reader<'a> {
     /// The kind and the value in the next word.
     fn next(&mut self) -> Argument
         requires { ⌜ Holds (now self) 1 ⌝ }
-        ensures kind { λ r. ⌜ r .kind ≡ kindOf (next (now (self .entry))) ⌝ }
-        ensures value { λ r. ⌜ r .value ≡ valueOf (next (now (self .entry))) ⌝ }
+        ensures kind { λ r. ⌜ r .kind ≡ kind-of (next (now (self .entry))) ⌝ }
+        ensures value { λ r. ⌜ r .value ≡ value-of (next (now (self .entry))) ⌝ }
         ensures moved { λ _. ⌜ Moved (now (self .entry)) (now (self .exit)) 1 ⌝ }
     {
         let word = self.frame[self.at];

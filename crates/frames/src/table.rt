@@ -2,7 +2,7 @@
 ghost use mathlib.Core.Path.{_≡_};
 ghost use Prim.Native.Nat.{_≤_};
 ghost use lib.ListN.{length};
-ghost use Rattle.frames.specs.Table.{kindCode, within, parametersOf, dataOf, takesData, takes};
+ghost use Rattle.frames.specs.Table.{kind-code, within, parameters-of, data-of, takes-data, takes};
 
 /// The kind of an argument, told by the top 4 bits of its word.
 #[derive(Clone, Copy)]
@@ -17,7 +17,7 @@ pub(crate) enum Kind {
 
 impl Kind {
     pub(crate) fn code(self) -> u32
-        ensures { λ r. ⌜ r ≡ kindCode self ⌝ }
+        ensures { λ r. ⌜ r ≡ kind-code self ⌝ }
     {
         self as u32
     }
@@ -55,7 +55,7 @@ pub(crate) struct Signature {
 impl Signature {
     /// Whether the call takes so many data words.
     pub(crate) fn takes_data(&self, words: usize) -> bool
-        ensures { λ r. ⌜ r ≡ takesData (now (self .entry) .payload) words ⌝ }
+        ensures { λ r. ⌜ r ≡ takes-data (now (self .entry) .payload) words ⌝ }
     {
         if self.payload == 0 {
             words == 0
@@ -200,8 +200,8 @@ const CALLS: [Signature; CALL_COUNT] = [
 /// What the call of a number takes.
 pub(crate) fn signature_of(number: usize) -> Signature
     requires { ⌜ 1 ≤ number ⌝ ∗ ⌜ number ≤ 11 ⌝ }
-    ensures parameters { λ r. ⌜ now (r .parameters) ≡ parametersOf number ⌝ }
-    ensures payload { λ r. ⌜ r .payload ≡ dataOf number ⌝ }
+    ensures parameters { λ r. ⌜ now (r .parameters) ≡ parameters-of number ⌝ }
+    ensures payload { λ r. ⌜ r .payload ≡ data-of number ⌝ }
 {
     CALLS[number - 1]
 }

@@ -7,20 +7,20 @@ use lib.ListN.{length, getD}
 use Rattle.std.specs.declared.option.Option.{Option}
 use Rattle.std.specs.declared.option.Option.the-variants.{Some, None}
 use Rattle.std.proofs.shelf.Tests.{cond-true, cond-false, le-leb, lt-leb}
-use Rattle.listing.specs.Lines.{Submitted, bind, decimalDigit, wordsIn, callIn, lineIn}
+use Rattle.listing.specs.Lines.{Submitted, bind, decimal-digit, words-in, call-in, line-in}
 use Rattle.listing.proofs.Options.{none-is-not-some}
 use Rattle.listing.proofs.Words.{tail, tail-is-rest}
 
 -- a process number, and words that may be none
-abbrev callBy : ℕ → Option (List ℕ) → Option Submitted
-callBy n o = bind o (λ ws. Some (record { process = n; frame = ws }))
+abbrev call-by : ℕ → Option (List ℕ) → Option Submitted
+call-by n o = bind o (λ ws. Some (record { process = n; frame = ws }))
 
-pub digit-and-words-are-line : (xs : List ℕ) (n : ℕ) (o : Option (List ℕ)) → length xs ≤ 200 → decimalDigit (getD xs 0 0) ≡ Some n → o ≡ wordsIn (tail xs) → callBy n o ≡ lineIn xs
+pub digit-and-words-are-line : (xs : List ℕ) (n : ℕ) (o : Option (List ℕ)) → length xs ≤ 200 → decimal-digit (getD xs 0 0) ≡ Some n → o ≡ words-in (tail xs) → call-by n o ≡ line-in xs
 digit-and-words-are-line [] n o h e f = none-is-not-some e
 digit-and-words-are-line (x ∷ xs) n o h e f =
-    ap (callBy n) (f ∙ ap wordsIn (tail-is-rest x xs))
-    ∙ ap (λ d. bind d (λ m. callBy m (wordsIn xs))) (sym e)
-    ∙ sym (cond-true (leb (length (x ∷ xs)) 200) (callIn (x ∷ xs)) None (le-leb (length (x ∷ xs)) 200 h))
+    ap (call-by n) (f ∙ ap words-in (tail-is-rest x xs))
+    ∙ ap (λ d. bind d (λ m. call-by m (words-in xs))) (sym e)
+    ∙ sym (cond-true (leb (length (x ∷ xs)) 200) (call-in (x ∷ xs)) None (le-leb (length (x ∷ xs)) 200 h))
 
-pub long-line-says-nothing : (xs : List ℕ) → 200 < length xs → lineIn xs ≡ None
-long-line-says-nothing xs h = cond-false (leb (length xs) 200) (callIn xs) None (lt-leb (length xs) 200 h)
+pub long-line-says-nothing : (xs : List ℕ) → 200 < length xs → line-in xs ≡ None
+long-line-says-nothing xs h = cond-false (leb (length xs) 200) (call-in xs) None (lt-leb (length xs) 200 h)

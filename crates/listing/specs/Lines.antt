@@ -22,41 +22,41 @@ bind None f = None
 bind (Some x) f = f x
 
 -- the codes 48 to 57 are the decimal digits
-abbrev pub decimalDigit : ℕ → Option ℕ
-decimalDigit b = cond (leb 48 b && leb b 57) (Some (b - 48)) None
+abbrev pub decimal-digit : ℕ → Option ℕ
+decimal-digit b = cond (leb 48 b && leb b 57) (Some (b - 48)) None
 
 -- and 65 to 70 the letters A to F, which stand for 10 to 15
-abbrev pub hexDigit : ℕ → Option ℕ
-hexDigit b = cond (leb 48 b && leb b 57) (Some (b - 48)) (cond (leb 65 b && leb b 70) (Some (b - 55)) None)
+abbrev pub hex-digit : ℕ → Option ℕ
+hex-digit b = cond (leb 48 b && leb b 57) (Some (b - 48)) (cond (leb 65 b && leb b 70) (Some (b - 55)) None)
 
 -- what digits spell behind those that spelled n
-abbrev pub hexFrom : ℕ → List ℕ → Option ℕ
-hexFrom n [] = Some n
-hexFrom n (b ∷ bs) = bind (hexDigit b) (λ d. hexFrom (n * 16 + d) bs)
+abbrev pub hex-from : ℕ → List ℕ → Option ℕ
+hex-from n [] = Some n
+hex-from n (b ∷ bs) = bind (hex-digit b) (λ d. hex-from (n * 16 + d) bs)
 
 -- a word: a space and eight digits
-abbrev pub wordIn : List ℕ → Option ℕ
-wordIn [] = None
-wordIn (b ∷ digits) = cond (eqb (length digits) 8 && eqb b 32) (hexFrom 0 digits) None
+abbrev pub word-in : List ℕ → Option ℕ
+word-in [] = None
+word-in (b ∷ digits) = cond (eqb (length digits) 8 && eqb b 32) (hex-from 0 digits) None
 
 -- one word more in front
 abbrev pub before : Option ℕ → Option (List ℕ) → Option (List ℕ)
 before w ws = bind w (λ x. bind ws (λ xs. Some (x ∷ xs)))
 
 -- k words, nine bytes each, and nothing behind them
-abbrev pub wordsBy : ℕ → List ℕ → Option (List ℕ)
-wordsBy zero bs = cond (eqb (length bs) 0) (Some []) None
-wordsBy (suc k) bs = before (wordIn (take 9 bs)) (wordsBy k (drop 9 bs))
+abbrev pub words-by : ℕ → List ℕ → Option (List ℕ)
+words-by zero bs = cond (eqb (length bs) 0) (Some []) None
+words-by (suc k) bs = before (word-in (take 9 bs)) (words-by k (drop 9 bs))
 
 -- words, and nothing but words
-abbrev pub wordsIn : List ℕ → Option (List ℕ)
-wordsIn bs = wordsBy (length bs / 9) bs
+abbrev pub words-in : List ℕ → Option (List ℕ)
+words-in bs = words-by (length bs / 9) bs
 
 -- a digit, then words
-abbrev pub callIn : List ℕ → Option Submitted
-callIn [] = None
-callIn (b ∷ bs) = bind (decimalDigit b) (λ n. bind (wordsIn bs) (λ ws. Some (record { process = n; frame = ws })))
+abbrev pub call-in : List ℕ → Option Submitted
+call-in [] = None
+call-in (b ∷ bs) = bind (decimal-digit b) (λ n. bind (words-in bs) (λ ws. Some (record { process = n; frame = ws })))
 
 -- what a line says, without its newline: nothing where it has over 200 bytes
-abbrev pub lineIn : List ℕ → Option Submitted
-lineIn bs = cond (leb (length bs) 200) (callIn bs) None
+abbrev pub line-in : List ℕ → Option Submitted
+line-in bs = cond (leb (length bs) 200) (call-in bs) None

@@ -6,25 +6,25 @@ use Prim.Native.Nat.{ℕ, zero, suc, _+_, _/_, _%_, _^_, _≤_, _<_}
 use lib.Dec.{ltb}
 use lib.ListN.{length}
 use Rattle.std.specs.declared.option.Option.the-variants.{Some}
-use Rattle.listing.specs.Lines.{Submitted, lineIn}
+use Rattle.listing.specs.Lines.{Submitted, line-in}
 
 -- the capital hexadecimal digit of a number below 16
-abbrev pub hexChar : ℕ → ℕ
-hexChar d = cond (ltb d 10) (48 + d) (55 + d)
+abbrev pub hex-char : ℕ → ℕ
+hex-char d = cond (ltb d 10) (48 + d) (55 + d)
 
 -- the last k hexadecimal digits of w
-abbrev pub hexText : ℕ → ℕ → List ℕ
-hexText zero w = []
-hexText (suc k) w = hexChar (w / 16 ^ k) ∷ hexText k (w % 16 ^ k)
+abbrev pub hex-text : ℕ → ℕ → List ℕ
+hex-text zero w = []
+hex-text (suc k) w = hex-char (w / 16 ^ k) ∷ hex-text k (w % 16 ^ k)
 
 -- a space and eight digits for each word
-abbrev pub wordsText : List ℕ → List ℕ
-wordsText [] = []
-wordsText (w ∷ ws) = 32 ∷ (hexText 8 w ++ wordsText ws)
+abbrev pub words-text : List ℕ → List ℕ
+words-text [] = []
+words-text (w ∷ ws) = 32 ∷ (hex-text 8 w ++ words-text ws)
 
 -- the process's digit, then the words of the frame
-abbrev pub lineText : Submitted → List ℕ
-lineText s = (48 + s .process) ∷ wordsText (s .frame)
+abbrev pub line-text : Submitted → List ℕ
+line-text s = (48 + s .process) ∷ words-text (s .frame)
 
 -- each word has 32 bits
 abbrev pub Words : List ℕ → Type 0
@@ -39,5 +39,5 @@ pub record Writable (s : Submitted) : Type 0 where
 
 -- a line says a call exactly where it is the text of that call
 pub record One-line-each : Type 0 where
-  pub reads-back : (s : Submitted) → Writable s → lineIn (lineText s) ≡ Some s
-  pub only-text : (bs : List ℕ) (s : Submitted) → lineIn bs ≡ Some s → Writable s × (bs ≡ lineText s)
+  pub reads-back : (s : Submitted) → Writable s → line-in (line-text s) ≡ Some s
+  pub only-text : (bs : List ℕ) (s : Submitted) → line-in bs ≡ Some s → Writable s × (bs ≡ line-text s)

@@ -8,7 +8,7 @@ ghost use Rattle.std.specs.Options.{mapped};
 ghost use Rattle.std.specs.Orderings.{Decides};
 ghost use Rattle.std.specs.Vec.{made, refused, listOf};
 ghost use Rattle.listing.specs.Listings.{numbered, listing};
-ghost use Rattle.listing.specs.Pending.{Bounded, begunLine, pending};
+ghost use Rattle.listing.specs.Pending.{Bounded, begun-line, pending};
 use crate::line::Line;
 use crate::parser::MAX_LINE;
 use crate::parser::parse_line;
@@ -76,7 +76,7 @@ impl Splitter {
     /// Ends the line that has begun, and gives it. Where memory is wanting nothing changes.
     fn end_line(&mut self, heap: Global) -> Result<Line, AllocError>
         requires { ⌜ now self .ended < 64 ⌝ }
-        ensures line { λ r. ⌜ made r (λ line. numbered line ≡ begunLine (now (self .entry))) ⌝ }
+        ensures line { λ r. ⌜ made r (λ line. numbered line ≡ begun-line (now (self .entry))) ⌝ }
         ensures ended { λ r. ⌜ made r (λ _. now (self .exit) .ended ≡ suc (now (self .entry) .ended)) ⌝ }
         ensures emptied { λ r. ⌜ made r (λ _. vec-items (now (self .exit) .begun) ≡ []) ⌝ }
         ensures refused { λ r. ⌜ refused r (λ _. now (self .exit) ≡ now (self .entry)) ⌝ }

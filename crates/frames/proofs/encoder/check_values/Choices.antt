@@ -2,9 +2,9 @@
 use Prim.Native.Nat.{_+_}
 use mathlib.Core.Path.{_≡_}
 use lib.ListN.{drop}
-use Rattle.frames.specs.Encode.{valueFault}
+use Rattle.frames.specs.Encode.{value-fault}
 use Rattle.frames.proofs.encoder.check_values.Given as given
 
 -- the values so far are within their bounds
 abbrev pub Inv-loop-i : given.InvT-loop-i
-Inv-loop-i l = valueFault (1 + l .i) (drop (l .i) (l .parameters)) (drop (l .i) (l .values)) ≡ valueFault 1 (l .parameters) (l .values)
+Inv-loop-i l = value-fault (1 + l .i) (drop (l .i) (l .parameters)) (drop (l .i) (l .values)) ≡ value-fault 1 (l .parameters) (l .values)

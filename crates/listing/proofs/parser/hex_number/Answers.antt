@@ -4,11 +4,11 @@ use Prim.Native.Nat.{_<_}
 use native.Mathlib.Omega.{arith}
 use lib.ListN.{getD}
 use Rattle.std.specs.declared.option.Option.the-variants.{Some}
-use Rattle.listing.specs.Lines.{hexDigit}
+use Rattle.listing.specs.Lines.{hex-digit}
 use Rattle.listing.proofs.Digits.{digit-is-text, eight-digits-fit, one-more-digit-fits, next-digit-spells-on, no-digit-spells-nothing, all-digits-spell-number}
 use Rattle.listing.proofs.parser.hex_number.Needs as need
 
-digit-is-there : (c : need.In-Continue-number) → hexDigit (getD (c .args .digits .now) (c .loop-digit .digit-index) 0) ≡ Some (c .in-Continue-number .field-0)
+digit-is-there : (c : need.In-Continue-number) → hex-digit (getD (c .args .digits .now) (c .loop-digit .digit-index) 0) ≡ Some (c .in-Continue-number .field-0)
 digit-is-there c = sym (c .hex-digit .ensures) ∙ c .in-Continue-number .was tt
 
 digit-is-small : (c : need.In-Continue-number) → c .in-Continue-number .field-0 < 16

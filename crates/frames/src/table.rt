@@ -16,6 +16,7 @@ pub(crate) enum Kind {
 }
 
 impl Kind {
+    /// The top 4 bits of an argument of this kind.
     pub(crate) fn code(self) -> u32
         ensures { λ r. ⌜ r ≡ kind-code self ⌝ }
     {

@@ -18,7 +18,7 @@ use Rattle.frames.specs.Table.{parameters-of, data-of, takes-data}
 use Rattle.frames.specs.Requests.{Request, call-number, arguments-of, data-in, reply-words}
 use Rattle.frames.specs.Decode.{unless, or-else, deny-unless, past-end, decode}
 use Rattle.frames.specs.Walks.{padded}
-use Rattle.frames.specs.Encode.{frame-of, encode, value-fault, refusal, put, written}
+use Rattle.frames.specs.Encode.{frame-of, encode, value-fault, refusal, put, buffer-after}
 use Rattle.frames.proofs.Outcomes.{none-from-ok, some-from-err}
 use Rattle.frames.proofs.Ranges.{Passes, not-refused}
 use Rattle.frames.proofs.RoundTrip.{regular, encode-length, decodes}
@@ -26,7 +26,7 @@ use Rattle.frames.proofs.RoundTrip.{regular, encode-length, decodes}
 -- what the writer promises where it writes: n words of a frame, in the buffer `after`
 pub record Encoded (c : Request) (before after : List ℕ) (n : ℕ) : Type 0 where
   pub value : Ok n ≡ unless (refusal c (length before)) (length (encode c))
-  pub buffer : after ≡ written (refusal c (length before)) (encode c) before
+  pub buffer : after ≡ buffer-after (refusal c (length before)) (encode c) before
   pub reads-back : (room : ℕ) → reply-words c ≤ room → decode (take n after) room ≡ Ok c
 
 encoded-so : (c : Request) (before after : List ℕ) (n : ℕ) → Passes c → n ≡ length (encode c) → n ≤ length before → after ≡ put 0 (encode c) before → Encoded c before after n
@@ -34,7 +34,7 @@ encoded-so c before after n p long fits is =
     let r : refusal c (length before) ≡ None = not-refused c (length before) p (subst (λ (k : ℕ). k ≤ length before) long fits) in
     record {
       value = ap Ok long ∙ ap (λ (o : Option FrameFault). unless o (length (encode c))) (sym r);
-      buffer = is ∙ ap (λ (o : Option FrameFault). written o (encode c) before) (sym r);
+      buffer = is ∙ ap (λ (o : Option FrameFault). buffer-after o (encode c) before) (sym r);
       reads-back = λ room room-enough.
           ap (λ (xs : List ℕ). decode xs room) (ap (take n) is ∙ take-at (encode c) _ n (sym long)) ∙ decodes c p room room-enough;
     }

@@ -47,6 +47,6 @@ abbrev pub put : ℕ → List ℕ → List ℕ → List ℕ
 put a ws buffer = take a buffer ++ (ws ++ drop (a + length ws) buffer)
 
 -- the buffer after: the frame at its start and the rest as it was, or all of it as it was
-abbrev pub written : Option FrameFault → List ℕ → List ℕ → List ℕ
-written None frame buffer = put 0 frame buffer
-written (Some f) frame buffer = buffer
+abbrev pub buffer-after : Option FrameFault → List ℕ → List ℕ → List ℕ
+buffer-after None frame buffer = put 0 frame buffer
+buffer-after (Some f) frame buffer = buffer

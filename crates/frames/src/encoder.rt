@@ -8,7 +8,7 @@ ghost use Rattle.std.specs.declared.result.Result.the-variants.{Ok};
 ghost use Rattle.frames.specs.Requests.{request, call-number, arguments-of, data-in, reply-words};
 ghost use Rattle.frames.specs.Decode.{unless, decode};
 ghost use Rattle.frames.specs.Walks.{padded};
-ghost use Rattle.frames.specs.Encode.{argument-words, frame-of, encode, value-fault, refusal, put, written};
+ghost use Rattle.frames.specs.Encode.{argument-words, frame-of, encode, value-fault, refusal, put, buffer-after};
 use crate::call::Call;
 use crate::decoder::check_end;
 use crate::fault::Flaw;
@@ -133,7 +133,7 @@ fn fill(number: usize, parameters: &[Parameter], values: &[u32], words: &[u32], 
 /// Where the call is denied the whole buffer is. What is written reads back as the call.
 pub fn encode(call: Call<'_>, buffer: &mut [u32]) -> Result<usize, FrameFault>
     ensures value { λ r. ⌜ r ≡ unless (refusal (request (call .entry)) (length (now (buffer .entry)))) (length (encode (request (call .entry)))) ⌝ }
-    ensures buffer { λ _. ⌜ now (buffer .exit) ≡ written (refusal (request (call .entry)) (length (now (buffer .entry)))) (encode (request (call .entry))) (now (buffer .entry)) ⌝ }
+    ensures buffer { λ _. ⌜ now (buffer .exit) ≡ buffer-after (refusal (request (call .entry)) (length (now (buffer .entry)))) (encode (request (call .entry))) (now (buffer .entry)) ⌝ }
     ensures reads_back { λ r. ⌜ made r (λ n. (room : ℕ) → reply-words (request (call .entry)) ≤ room → decode (take n (now (buffer .exit))) room ≡ Ok (request (call .entry))) ⌝ }
 {
     let Parts {

@@ -6,7 +6,7 @@ use Rattle.std.proofs.shelf.Results.{err-from-errBy, made-from-err}
 use Rattle.std.specs.declared.result.Result.the-variants.{Err}
 use Rattle.frames.specs.Requests.{request}
 use Rattle.frames.specs.Decode.{unless}
-use Rattle.frames.specs.Encode.{encode, written}
+use Rattle.frames.specs.Encode.{encode, buffer-after}
 use Rattle.frames.proofs.Encoded.{denied-value, encoded, values-are}
 use Rattle.frames.proofs.encoder.encode.Needs as need
 
@@ -18,7 +18,7 @@ returns-in-Break-check-values c =
     (length (c .args .buffer .now)) (c .in-Break-check-values .field-0 .0) (sym (c .if-not-takes-data .ensures tt)) (c .in-Break-check-values .ensures tt) in
     record {
       value = p .1 ∙ ap Err (p .2) ∙ ap (λ o. unless o (length (encode (request (c .args .call))))) (sym d);
-      buffer = ap (λ o. written o (encode (request (c .args .call))) (c .args .buffer .now)) (sym d);
+      buffer = ap (λ o. buffer-after o (encode (request (c .args .call))) (c .args .buffer .now)) (sym d);
       reads-back = made-from-err (c .from-residual .result) _ (c .from-residual .ensures .0);
     }
 

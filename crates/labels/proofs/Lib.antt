@@ -1,0 +1,3 @@
+pub mod Subsets
+mod Levels
+pub mod LabelLaws

@@ -1,11 +1,11 @@
-//! One volume behind another.
+//! A volume of two volumes.
 ghost use mathlib.Core.Path.{_≡_};
 ghost use Rattle.volumes.specs.Pages.{pages-in, inside, written};
 ghost use Rattle.volumes.specs.Volumes.{joined-words, written-behind};
 use crate::MAX_PAGES;
 use crate::Volume;
 
-/// The pages of the first volume and then those of the second, as many as a volume may have.
+/// The pages of the first volume and then those of the second, cut at `MAX_PAGES`.
 #[derive(Drop)]
 pub struct Joined<A, B> {
     pub first: A,
@@ -30,7 +30,7 @@ pub impl<A: Volume, B: Volume> Volume for Joined<A, B> as JoinedVolume {
         }
     }
 
-    /// The second volume's pages past the cut stay as they are, too.
+    /// Writes as every volume does, to one of the two, and leaves the pages past the cut as they were.
     fn write(&mut self, page: usize, word: usize, value: u32) -> bool
         ensures value { λ r. ⌜ r ≡ inside (joined-words A·Volume B·Volume (now (self .entry))) page word ⌝ }
         ensures words { λ _. ⌜ joined-words A·Volume B·Volume (now (self .exit)) ≡ written (joined-words A·Volume B·Volume (now (self .entry))) page word value ⌝ }

@@ -8,21 +8,21 @@ use crate::MAX_PAGES;
 use crate::PAGE_WORDS;
 use crate::Volume;
 
-/// A volume over words handed in. A last part page, and pages past the most that a volume has, stay unused.
+/// A volume over words handed in. A last part page, and the pages past `MAX_PAGES`, stay unused and untouched.
 #[derive(Drop)]
 pub struct Plain {
     words: Vec<u32>,
 }
 
 impl Plain {
-    /// A volume over these words, as they are.
+    /// A volume over these words.
     pub fn new(words: Vec<u32>) -> Plain
         ensures { λ r. ⌜ r .words ≡ words ⌝ }
     {
         Plain { words }
     }
 
-    /// Hands back all words, used and unused.
+    /// Hands back all words, the unused ones too.
     pub fn into_words(self) -> Vec<u32>
         ensures { λ r. ⌜ r ≡ self .words ⌝ }
     {
@@ -54,7 +54,7 @@ pub impl Volume for Plain as PlainVolume {
         Some(self.words[index])
     }
 
-    /// The unused words stay as they are.
+    /// Writes as every volume does, and leaves the unused words as they were.
     fn write(&mut self, page: usize, word: usize, value: u32) -> bool
         ensures value { λ r. ⌜ r ≡ inside (plain-words (now (self .entry))) page word ⌝ }
         ensures words { λ _. ⌜ plain-words (now (self .exit)) ≡ written (plain-words (now (self .entry))) page word value ⌝ }

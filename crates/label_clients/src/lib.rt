@@ -1,8 +1,9 @@
 //! Code over any part order, as a store has it: the laws come with the bound.
 ghost use mathlib.Core.Path.{_≡_};
-ghost use mathlib.Core.Bool.{true, _&&_};
+ghost use mathlib.Core.Bool.{true};
 ghost use Rattle.std.specs.Orderings.{Decides};
 ghost use Rattle.labels.specs.Labels.{orders-of, valid, below};
+ghost use Rattle.label_clients.specs.Chains.{chain};
 use labels::Label;
 use labels::LabelOrder;
 use labels::PartOrder;
@@ -16,8 +17,8 @@ pub fn both_ways<P: PartOrder>(order: &P, a: u32, b: u32) -> bool
 
 /// Whether `a` is below `b`, and `b` below `c`. Then `a` is below `c`.
 pub fn chained<P: PartOrder>(order: &P, a: u32, b: u32, c: u32) -> bool
-    ensures value { λ r. ⌜ r ≡ (P·PartOrder .order (now (order .entry)) .below a b && P·PartOrder .order (now (order .entry)) .below b c) ⌝ }
-    ensures chain { λ r. ⌜ (r ≡ true → P·PartOrder .order (now (order .entry)) .below a c ≡ true) ⌝ }
+    ensures value { λ r. ⌜ r ≡ chain (P·PartOrder .order (now (order .entry)) .below) a b c ⌝ }
+    ensures transitive { λ r. ⌜ (r ≡ true → P·PartOrder .order (now (order .entry)) .below a c ≡ true) ⌝ }
 {
     order.below(a, b) && order.below(b, c)
 }
@@ -40,8 +41,8 @@ pub fn labels_chained<S: PartOrder, I: PartOrder>(
     mid: Label,
     high: Label,
 ) -> bool
-    ensures value { λ r. ⌜ r ≡ (below (orders-of S·PartOrder I·PartOrder (now (order .entry))) low mid && below (orders-of S·PartOrder I·PartOrder (now (order .entry))) mid high) ⌝ }
-    ensures chain { λ r. ⌜ (r ≡ true → below (orders-of S·PartOrder I·PartOrder (now (order .entry))) low high ≡ true) ⌝ }
+    ensures value { λ r. ⌜ r ≡ chain (below (orders-of S·PartOrder I·PartOrder (now (order .entry)))) low mid high ⌝ }
+    ensures transitive { λ r. ⌜ (r ≡ true → below (orders-of S·PartOrder I·PartOrder (now (order .entry))) low high ≡ true) ⌝ }
 {
     order.below(low, mid) && order.below(mid, high)
 }

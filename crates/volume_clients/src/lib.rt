@@ -1,4 +1,4 @@
-//! Code over any volume, proved from what every volume promises.
+//! Code over volumes, proved from their contracts alone.
 ghost use mathlib.Core.Path.{_≡_};
 ghost use Rattle.std.specs.Of.Vec.{vec-items};
 ghost use Rattle.volumes.specs.Pages.{written};
@@ -20,7 +20,7 @@ pub fn write_back<V: Volume>(volume: &mut V, page: usize, word: usize, value: u3
     volume.read(page, word)
 }
 
-/// Writes a word of three volumes, joined, and reads it back.
+/// Writes a word of three volumes, joined and joined again, and reads it back. Every other word reads as before.
 pub fn write_back_in_three<V: Volume, W: Volume, X: Volume>(
     volume: &mut Joined<Joined<V, W>, X>,
     page: usize,
@@ -33,7 +33,7 @@ pub fn write_back_in_three<V: Volume, W: Volume, X: Volume>(
     write_back(volume, page, word, value)
 }
 
-/// Writes a word of the volume over these words, and hands them back.
+/// Writes a word of the plain volume over these words, and hands them back.
 pub fn write_through(words: Vec<u32>, page: usize, word: usize, value: u32) -> Vec<u32>
     ensures used { λ r. ⌜ used (vec-items r) ≡ written (used (vec-items words)) page word value ⌝ }
     ensures unused { λ r. ⌜ unused (vec-items r) ≡ unused (vec-items words) ⌝ }

@@ -1,44 +1,17 @@
 -- The pages of two joined volumes. Assumes nothing.
 use mathlib.Core.Path.{_≡_, refl, sym, ap, _∙_}
-use mathlib.Core.Bool.{Bool, true, false}
+use mathlib.Core.Bool.{false}
 use mathlib.Core.List.{List, _++_}
 use Prim.Native.Nat.{ℕ, _+_, _-_, _*_, _<_, _≤_, min}
 use native.Mathlib.Omega.{arith}
 use lib.ListN.{length, getD, set, length-take, length-append}
 use lib.Seq.{getD-take, take-set-lt}
 use Rattle.std.proofs.shelf.Lists.{getD-append-left, getD-append-right, set-append-left, set-append-right}
-use Rattle.std.proofs.shelf.Tests.{cond-both}
 use Rattle.std.proofs.shelf.Ways.{tells}
-use Rattle.std.specs.declared.option.Option.{Option}
-use Rattle.std.specs.declared.option.Option.the-variants.{Some, None}
-use Rattle.volumes.specs.Pages.{page-words, max-pages, pages-in, Whole, inside, word-index, word-at, written}
+use Rattle.volumes.specs.Pages.{page-words, max-pages, pages-in, Whole, inside, word-index, written}
 use Rattle.volumes.specs.Volumes.{cut, joined, written-behind}
-use Rattle.volumes.proofs.Insides.{word-in-page, index-inside, past-pages, inside-read, outside-read, inside-written, outside-written}
-
--- page p of a part is page q of the whole that holds it
-pub record Part-page (whole : List ℕ → List ℕ) (part : List ℕ) (p q : ℕ) : Type 0 where
-  pub same-inside : (word : ℕ) → inside part p word ≡ inside (whole part) q word
-  pub same-word : (word : ℕ) → inside part p word ≡ true → getD part (word-index p word) 0 ≡ getD (whole part) (word-index q word) 0
-  pub same-change : (word value : ℕ) → inside part p word ≡ true → whole (set part (word-index p word) value) ≡ set (whole part) (word-index q word) value
-
--- what is answered and done at the part's page is answered and done at the whole's
-module _ (whole : List ℕ → List ℕ) (part : List ℕ) (p q : ℕ) (page : Part-page whole part p q) (word : ℕ) where
-  pub part-read : (r : Option ℕ) → r ≡ word-at part p word → r ≡ word-at (whole part) q word
-  part-read r is =
-      is
-      ∙ cond-both (inside part p word) (Some (getD part (word-index p word) 0)) None (λ o. o ≡ word-at (whole part) q word)
-      (λ h. ap Some (page .same-word word h) ∙ inside-read (whole part) q word (sym (page .same-inside word) ∙ h))
-      (λ h. outside-read (whole part) q word (sym (page .same-inside word) ∙ h))
-
-  pub part-inside : (r : Bool) → r ≡ inside part p word → r ≡ inside (whole part) q word
-  part-inside r is = is ∙ page .same-inside word
-
-  pub part-written : (value : ℕ) (after : List ℕ) → after ≡ written part p word value → whole after ≡ written (whole part) q word value
-  part-written value after is =
-      ap whole is
-      ∙ cond-both (inside part p word) (set part (word-index p word) value) part (λ l. whole l ≡ written (whole part) q word value)
-      (λ h. page .same-change word value h ∙ inside-written (whole part) q word value (sym (page .same-inside word) ∙ h))
-      (λ h. outside-written (whole part) q word value (sym (page .same-inside word) ∙ h))
+use Rattle.volumes.proofs.Insides.{word-in-page, index-inside, past-pages}
+use Rattle.volumes.proofs.Parts.{Part-page}
 
 cut-word : (ws : List ℕ) (i : ℕ) → i < max-pages * page-words → getD (cut ws) i 0 ≡ getD ws i 0
 cut-word ws i h = getD-take (max-pages * page-words) ws i 0 h

@@ -1,3 +1,4 @@
 pub mod Insides
 pub mod Plains
+pub mod Parts
 pub mod Joins

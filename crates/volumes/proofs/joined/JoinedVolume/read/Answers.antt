@@ -2,7 +2,8 @@
 use native.Mathlib.Omega.{arith}
 use Rattle.volumes.specs.Volumes.{joined}
 use Rattle.volumes.proofs.Insides.{outside-read}
-use Rattle.volumes.proofs.Joins.{part-read, past-joined, first-page, second-page}
+use Rattle.volumes.proofs.Joins.{past-joined, first-page, second-page}
+use Rattle.volumes.proofs.Parts.{part-read}
 use Rattle.volumes.proofs.joined.JoinedVolume.read.Needs as need
 
 pub returns-then-page-first : need.returns-then-page-first

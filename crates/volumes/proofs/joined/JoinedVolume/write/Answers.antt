@@ -3,7 +3,8 @@ use mathlib.Core.Path.{sym}
 use native.Mathlib.Omega.{arith}
 use Rattle.volumes.specs.Volumes.{joined}
 use Rattle.volumes.proofs.Insides.{past-pages, outside-written, written-keeps-pages}
-use Rattle.volumes.proofs.Joins.{part-inside, part-written, past-joined, first-page, second-page, kept-before, kept-past, changed-behind}
+use Rattle.volumes.proofs.Joins.{past-joined, first-page, second-page, kept-before, kept-past, changed-behind}
+use Rattle.volumes.proofs.Parts.{part-inside, part-written}
 use Rattle.volumes.proofs.joined.JoinedVolume.write.Needs as need
 
 pub returns-then-page-first : need.returns-then-page-first

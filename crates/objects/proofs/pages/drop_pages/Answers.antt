@@ -16,11 +16,11 @@ loop-page-preserved c =
     let a = look c.args.table.now in
     let i = c.args.index in
     let k = c.loop-page.page in (
-      page_again a (look c.loop-page.table) (look c.drop-page.new.table) i k (cut_upto c.args.keep k (a i).page) None c.loop-page.invariant.0 c.drop-page.ensures.after
+      page_again a (look c.loop-page.table) (look c.drop_page.new.table) i k (cut_upto c.args.keep k (a i).page) None c.loop-page.invariant.0 c.drop_page.ensures.after
           ∙ ap (λ (ps : ℕ → Option ℕ). assign a i (with_pages (a i) ps)) (cut_next c.args.keep k (a i).page c.loop-page.auto.page),
-      c.drop-page.ensures.size ∙ c.loop-page.invariant.1,
-      c.drop-page.ensures.room ∙ c.loop-page.invariant.2,
-      c.drop-page.ensures.served,
+      c.drop_page.ensures.size ∙ c.loop-page.invariant.1,
+      c.drop_page.ensures.room ∙ c.loop-page.invariant.2,
+      c.drop_page.ensures.served,
     )
 
 pub returns : goal.returns

@@ -4,7 +4,7 @@ use Rattle.forest.specs.Forest.{has}
 use Rattle.forest.proofs.Tally.{sum_none}
 use Rattle.tables.specs.Objects.{look}
 use Rattle.tables.proofs.Counts.{sum_next, has_some, has_none}
-use Rattle.objects.proofs.pages.present_from.Goals.{then-is-some, else-is-some}
+use Rattle.objects.proofs.pages.present_from.Goals.{then-is_some, else-is_some}
 use Rattle.objects.proofs.pages.present_from.Goals as goal
 
 pub loop-page-init : goal.loop-page-init
@@ -22,7 +22,7 @@ loop-page-preserved c =
     let past = ap (λ (t : Bool). cond t 0 (has (links k))) (le-ltb k c.args.keep c.loop-page.auto.page) in
     let here = ap has c.page.ensures in
     let was = c.loop-page.invariant.1 in
-    elim c.if-is-some.branch [
-      | then-is-some w ↦ let h = has_some _ (sym w.if-is-some.ensures) in let n = w.count-is in (omega arith, omega arith)
-      | else-is-some w ↦ let h = has_none _ (sym w.if-is-some.ensures) in let n = w.count-is in (omega arith, omega arith)
+    elim c.if-is_some.branch [
+      | then-is_some w ↦ let h = has_some _ (sym w.if-is_some.ensures) in let n = w.count-is in (omega arith, omega arith)
+      | else-is_some w ↦ let h = has_none _ (sym w.if-is_some.ensures) in let n = w.count-is in (omega arith, omega arith)
     ]

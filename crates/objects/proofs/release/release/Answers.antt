@@ -16,13 +16,13 @@ use Rattle.tables.proofs.Within.{live_within}
 use Rattle.objects.proofs.release.release.Goals.{After-clear}
 use Rattle.objects.proofs.release.release.Goals as goal
 
-pub drop-pages-requires : goal.drop-pages-requires
-drop-pages-requires c = record { index = live_within c.args.table.now c.args.index c.requires.live; keep = omega arith; short = c.requires.short; served = c.requires.served }
+pub drop_pages-requires : goal.drop_pages-requires
+drop_pages-requires c = record { index = live_within c.args.table.now c.args.index c.requires.live; keep = omega arith; short = c.requires.short; served = c.requires.served }
 
 pub clear-requires : goal.clear-requires
 clear-requires c =
     let low = live_within c.args.table.now c.args.index c.requires.live in
-    let size = c.drop-pages.ensures.size in
+    let size = c.drop_pages.ensures.size in
     omega arith
 
 pub push-requires : goal.push-requires
@@ -41,7 +41,7 @@ cleared_is c =
     let a = look c.args.table.now in
     let i = c.args.index in
     c.clear.ensures.after
-    ∙ ap (λ (f : Nodes). assign f i (cleared (f i))) c.drop-pages.ensures.after
+    ∙ ap (λ (f : Nodes). assign f i (cleared (f i))) c.drop_pages.ensures.after
     ∙ ap (λ (x : Node). assign (assign a i (with_pages (a i) (cut_links 0 (a i).page))) i (cleared x)) (assign_same a i _)
     ∙ assign_twice a i _ _
 
@@ -54,12 +54,12 @@ returns c =
     let low = live_within c.args.table.now i c.requires.live in
     let few = c.args.table.now.few in
     let sized = c.requires.sized in
-    let room = c.drop-pages.ensures.room in
+    let room = c.drop_pages.ensures.room in
     let n = stack_room c.args.spare.now in
     let height : stack_height c.push.new.self ≡ suc (stack_height c.args.unused.now) = let h = c.push.ensures.height in omega arith in
     record {
       after = is;
-      size = c.clear.ensures.size ∙ c.drop-pages.ensures.size;
+      size = c.clear.ensures.size ∙ c.drop_pages.ensures.size;
       unused = c.push.ensures.room;
       spare = room;
       stocked =
@@ -70,6 +70,6 @@ returns c =
           (λ x q. ap (λ (f : Nodes). (f x).body) is ∙ ap (λ (x : Node). x.body) (assign_other a i x _ q)) (omega arith) c.requires.live
           (ap (λ (f : Nodes). (f i).body) is ∙ ap (λ (x : Node). x.body) (assign_same a i _))))));
       served =
-          ∥∥₁_map c.drop-pages.ensures.served
-          (served_kept _ _ _ (look c.drop-pages.new.table) b (cleared_pages a (look c.drop-pages.new.table) b i c.drop-pages.ensures.after is));
+          ∥∥₁_map c.drop_pages.ensures.served
+          (served_kept _ _ _ (look c.drop_pages.new.table) b (cleared_pages a (look c.drop_pages.new.table) b i c.drop_pages.ensures.after is));
     }

@@ -32,7 +32,7 @@ returns-in-Some c =
 pub returns-in-None : goal.returns-in-None
 returns-in-None c =
     let a = look c.args.table.now in
-    let b = look c.set-page.new.self in
+    let b = look c.set_page.new.self in
     let i = c.args.index in
     let k = c.args.page in
     let n = stack_room c.args.spare.now in
@@ -48,12 +48,12 @@ returns-in-None c =
     record {
       low = subst (λ (v : ℕ). v < n) (sym top) (∥∥₁_elim was le_prop (λ s. (s.spare.free h (omega arith)).0));
       was = is;
-      after = c.set-page.ensures.after;
-      size = c.set-page.ensures.size;
+      after = c.set_page.ensures.after;
+      size = c.set_page.ensures.size;
       height = omega arith;
       room = c.pop-number.ensures.room;
       served =
           subst (λ (m : ℕ). ∥ Served m (stack_item c.pop-number.new.self) h b ∥₁) (sym c.pop-number.ensures.room)
           (subst (λ (f : ℕ → ℕ). ∥ Served n f h b ∥₁) (sym c.pop-number.ensures.items)
-          (∥∥₁_map was (page_taken a b n (stack_item c.args.spare.now) h i k (Some c.pop-number.result) (omega arith) c.requires.page c.set-page.ensures.after is (ap Some top))));
+          (∥∥₁_map was (page_taken a b n (stack_item c.args.spare.now) h i k (Some c.pop-number.result) (omega arith) c.requires.page c.set_page.ensures.after is (ap Some top))));
     }

@@ -23,9 +23,9 @@ loop-word-preserved g c =
     let same = c.loop-word.invariant.0 in
     let there : inside ws p q ≡ true = and_from _ _ (lt-ltb p (pages_in ws) (omega arith)) (lt-ltb q 16 (omega arith)) in
     let old = c.loop-word.invariant.1 (p * 16 + q) ∙ page_past w p c.args.fresh c.args.number c.args.first ds q q (omega arith) in
-    let value = c.new-word-value.ensures ∙ ap (λ (z : ℕ). word_over c.args.first ds (16 * c.args.number + q) (cond c.args.fresh 0 z)) old in
-    let set = c.write.ensures.words ∙ sym (inside_written ws p q c.new-word-value.result there) in
-    let items = items_set ws (p * 16 + q) c.new-word-value.result 0 (index_inside ws p q there) in (
+    let value = c.new_word-value.ensures ∙ ap (λ (z : ℕ). word_over c.args.first ds (16 * c.args.number + q) (cond c.args.fresh 0 z)) old in
+    let set = c.write.ensures.words ∙ sym (inside_written ws p q c.new_word-value.result there) in
+    let items = items_set ws (p * 16 + q) c.new_word-value.result 0 (index_inside ws p q there) in (
       c.write.ensures.pages ∙ same,
       λ x. ap (λ (l : List ℕ). told l x) set ∙ ap (λ (f : ℕ → ℕ). f x) items ∙ ap₂ (cond (eqb x (p * 16 + q))) value (c.loop-word.invariant.1 x)
           ∙ page_next w p c.args.fresh c.args.number c.args.first ds q x,

@@ -26,8 +26,8 @@ loop-page-init g c = record {
   beyond = λ x _. refl;
 }
 
-pub write-one-requires : goal.write-one-requires
-write-one-requires g c =
+pub write_one-requires : goal.write_one-requires
+write_one-requires g c =
     let inv = c.loop-page.invariant in
     let k = c.loop-page.page in
     let a = look c.args.table.now in
@@ -56,11 +56,11 @@ write-one-requires g c =
 pub loop-page-preserved : goal.loop-page-preserved
 loop-page-preserved g c =
     let inv = c.loop-page.invariant in
-    let e = c.write-one.ensures in
+    let e = c.write_one.ensures in
     let k = c.loop-page.page in
     let a = look c.args.table.now in
     let b = look c.loop-page.table in
-    let b' = look c.write-one.new.table in
+    let b' = look c.write_one.new.table in
     let i = c.args.index in
     let first = c.args.first in
     let ds = c.args.words.now in

@@ -6,21 +6,21 @@ use Rattle.frames.proofs.reader.Reader.arguments.Goals as goal
 
 pub loop-i-preserved : goal.loop-i-preserved
 loop-i-preserved c =
-    let h = c.in-ok-values.ensures.value in (
+    let h = c.in_ok-values.ensures.value in (
       c.argument.ensures.moved.frame ∙ c.loop-i.invariant.0,
       omega arith,
       goes_on c.args.self.now.at c.loop-i.i c.loop-i.self.at c.args.parameters.now _ _ _ c.loop-i.invariant.0 c.loop-i.invariant.1 c.loop-i-test.true c.requires.1 _ c.loop-i.invariant.2 _ h,
       values_more c.args.self.now.at c.loop-i.i c.loop-i.self.at _ _ _ _ c.loop-i.invariant.0 c.loop-i.invariant.1 (omega arith) (omega arith) (value_is _ _ _ _ h) c.loop-i.invariant.3,
     )
 
-pub returns-in-err-values : goal.returns-in-err-values
-returns-in-err-values c =
-    let h = c.in-err-values.ensures.value in
-    let p = err_from_is_err_and c.from-residual.result c.from-residual.ensures.1 in
+pub returns-in_err-values : goal.returns-in_err-values
+returns-in_err-values c =
+    let h = c.in_err-values.ensures.value in
+    let p = err_from_is_err_and c.from_residual.result c.from_residual.ensures.1 in
     record {
-      walked = walked_err c.args.self.now.at c.args.parameters.now _ c.from-residual.result c.in-err-values.field-0.0 (p.1 ∙ ap Err p.2)
+      walked = walked_err c.args.self.now.at c.args.parameters.now _ c.from_residual.result c.in_err-values.field-0.0 (p.1 ∙ ap Err p.2)
           (stops c.args.self.now.at c.loop-i.i c.loop-i.self.at c.args.parameters.now _ _ _ c.loop-i.invariant.0 c.loop-i.invariant.1 c.loop-i-test.true c.requires.1 _ c.loop-i.invariant.2 _ h);
-      moved = IfOk-from_err c.from-residual.result _ c.from-residual.ensures.0;
+      moved = IfOk-from_err c.from_residual.result _ c.from_residual.ensures.0;
     }
 
 pub returns : goal.returns

@@ -11,7 +11,7 @@ use Rattle.objects.proofs.objects.Objects.create_directory.Goals as goal
 pub insert-requires : goal.insert-requires
 insert-requires c =
     let l = c.args.label in
-    let is = sym c.new-cell-cell.ensures in
+    let is = sym c.new_cell-cell.ensures in
     record {
       directory = c.requires.directory;
       within = c.requires.within;
@@ -29,7 +29,7 @@ returns c =
       tree = λ w.
           c.insert.ensures.tree w
           ∙ ap (λ (x : Option Cell). tree_after (path_to a c.args.directory) (change (change_place c.args.place (create (directory c.args.label x (λ _. empty)))) (1 + c.args.grant) 0) (tree_of w a))
-          c.new-cell-cell.ensures;
+          c.new_cell-cell.ensures;
       stays = c.insert.ensures.stays;
       records = c.insert.ensures.records;
     }

@@ -15,7 +15,7 @@ use Rattle.tables.specs.Objects.{look}
 use Rattle.tables.specs.Stacks.{stack_item, stack_height}
 use Rattle.tables.proofs.Within.{live_within}
 use Rattle.objects.proofs.Charging.{can_charge}
-use Rattle.objects.proofs.objects.Objects.delete.Goals.{After-set-entry, After-release-marked}
+use Rattle.objects.proofs.objects.Objects.delete.Goals.{After-set_entry, After-release_marked}
 use Rattle.objects.proofs.objects.Objects.delete.Goals as goal
 
 pub payer-payer-requires : goal.payer-payer-requires
@@ -30,31 +30,31 @@ charge-requires c =
     let bound = removal_gives k d c.args.place c.args.child c.weights-back.result (λ z. get_or c.args.marks.now z false) c.requires.there c.requires.marked c.weights-back.ensures in
     can_charge c.args.self.now.table k d c.payer-payer.result 0 c.weights-back.result l c.payer-payer.ensures (omega arith) (omega arith) (omega arith)
 
-pub set-entry-requires : goal.set-entry-requires
-set-entry-requires c =
+pub set_entry-requires : goal.set_entry-requires
+set_entry-requires c =
     let h = (formed c.args.self.now.kept).down c.args.directory c.args.place c.args.child c.requires.there in
     let low = live_within c.args.self.now.table c.args.directory (dir_live _ h.whole) in
     let size = c.charge.ensures.size in
     record { index = omega arith; place = h.within }
 
 -- the table before the marked objects leave use
-unlinked : (c : After-set-entry) → look c.set-entry.new.self ≡ unlinking c.weights-back.result (look c.args.self.now.table) c.args.directory c.args.place
+unlinked : (c : After-set_entry) → look c.set_entry.new.self ≡ unlinking c.weights-back.result (look c.args.self.now.table) c.args.directory c.args.place
 unlinked c =
-    unlinked_is (look c.args.self.now.table) (look c.charge.new.self) (look c.set-entry.new.self) c.args.directory c.args.place c.payer-payer.result c.weights-back.result
-    c.payer-payer.ensures c.charge.ensures.after c.set-entry.ensures.after
+    unlinked_is (look c.args.self.now.table) (look c.charge.new.self) (look c.set_entry.new.self) c.args.directory c.args.place c.payer-payer.result c.weights-back.result
+    c.payer-payer.ensures c.charge.ensures.after c.set_entry.ensures.after
 
-pub release-marked-requires : goal.release-marked-requires
-release-marked-requires c =
+pub release_marked-requires : goal.release_marked-requires
+release_marked-requires c =
     let t = c.args.self.now.table in
     let k = c.args.self.now.kept in
     let a = look t in
-    let b = look c.set-entry.new.self in
+    let b = look c.set_entry.new.self in
     let m = c.weights-back.result in
-    let is = unlinked (goal.at.release-marked-requires c).After-set-entry in
+    let is = unlinked (goal.at.release_marked-requires c).After-set_entry in
     let lives : (x : ℕ) → is_live (b x).body ≡ is_live (a x).body = λ x. ap (λ (f : Nodes). is_live (f x).body) is ∙ unlinking_live m a c.args.directory c.args.place x in
     let pages : (x : ℕ) → (b x).page ≡ (a x).page = λ x. ap (λ (f : Nodes). (f x).page) is ∙ unlinking_pages m a c.args.directory c.args.place x in
     let one = c.charge.ensures.size in
-    let two = c.set-entry.ensures.size in
+    let two = c.set_entry.ensures.size in
     let sized = c.args.self.now.sized in
     record {
       live = λ x q. alive (b x).body (a x).body (lives x) (subst (Tells a c.args.child x) q (c.requires.marked x)).0;
@@ -65,26 +65,26 @@ release-marked-requires c =
       served = ∥∥₁_map k (λ z. served_kept _ _ _ a b pages z.served);
     }
 
-written : (c : After-release-marked) → Removal (look c.args.self.now.table) (look c.release-marked.new.table) c.args.directory c.args.place c.args.child c.weights-back.result (λ z. get_or c.args.marks.now z false)
+written : (c : After-release_marked) → Removal (look c.args.self.now.table) (look c.release_marked.new.table) c.args.directory c.args.place c.args.child c.weights-back.result (λ z. get_or c.args.marks.now z false)
 written c =
-    removal (look c.args.self.now.table) (look c.set-entry.new.self) (look c.release-marked.new.table) c.args.directory c.args.place c.args.child c.weights-back.result (λ z. get_or c.args.marks.now z false)
+    removal (look c.args.self.now.table) (look c.set_entry.new.self) (look c.release_marked.new.table) c.args.directory c.args.place c.args.child c.weights-back.result (λ z. get_or c.args.marks.now z false)
     c.requires.there c.requires.marked
-    (unlinked_is (look c.args.self.now.table) (look c.charge.new.self) (look c.set-entry.new.self) c.args.directory c.args.place c.payer-payer.result c.weights-back.result
-    c.payer-payer.ensures c.charge.ensures.after c.set-entry.ensures.after)
-    c.release-marked.ensures.after
+    (unlinked_is (look c.args.self.now.table) (look c.charge.new.self) (look c.set_entry.new.self) c.args.directory c.args.place c.payer-payer.result c.weights-back.result
+    c.payer-payer.ensures c.charge.ensures.after c.set_entry.ensures.after)
+    c.release_marked.ensures.after
 
-pub invariant-of-self : goal.invariant-of-self
-invariant-of-self c =
-    let room = c.release-marked.ensures.spare in
+pub invariant_of-self : goal.invariant_of-self
+invariant_of-self c =
+    let room = c.release_marked.ensures.spare in
     let roomy = c.args.self.now.roomy in
     let sized = c.args.self.now.sized in
     let one = c.charge.ensures.size in
-    let two = c.set-entry.ensures.size in
-    let three = c.release-marked.ensures.size in
-    let four = c.release-marked.ensures.unused in
-    let u = c.release-marked.new.unused in
-    let s = c.release-marked.new.spare in
-    let b = look c.release-marked.new.table in (
+    let two = c.set_entry.ensures.size in
+    let three = c.release_marked.ensures.size in
+    let four = c.release_marked.ensures.unused in
+    let u = c.release_marked.new.unused in
+    let s = c.release_marked.new.spare in
+    let b = look c.release_marked.new.table in (
       omega arith,
       (
         omega arith,
@@ -92,8 +92,8 @@ invariant-of-self c =
           subst (λ (n : ℕ). ∥ Kept n b (stack_item u) (stack_height u) (stack_item s) (stack_height s) ∥₁) (sym room)
               (removal_kept c.args.self.now.kept c.args.directory c.args.place c.args.child c.weights-back.result (λ z. get_or c.args.marks.now z false) (written c)
               (stack_item u) (stack_height u) (stack_item s) (stack_height s) c.weights-back.ensures
-              (subst (λ (n : ℕ). ∥ Stocked n (stack_item u) (stack_height u) b ∥₁) room c.release-marked.ensures.stocked)
-              (subst (λ (n : ℕ). ∥ Served n (stack_item s) (stack_height s) b ∥₁) room c.release-marked.ensures.served)),
+              (subst (λ (n : ℕ). ∥ Stocked n (stack_item u) (stack_height u) b ∥₁) room c.release_marked.ensures.stocked)
+              (subst (λ (n : ℕ). ∥ Served n (stack_item s) (stack_height s) b ∥₁) room c.release_marked.ensures.served)),
           tt,
         ),
       ),
@@ -104,10 +104,10 @@ returns c =
     let k = c.args.self.now.kept in
     let s = formed k in
     let m : ℕ → Bool = λ z. get_or c.args.marks.now z false in
-    let i = written (goal.at.returns c).After-release-marked in
+    let i = written (goal.at.returns c).After-release_marked in
     record {
       value = λ w. c.weights-back.ensures ∙ subtree_records k c.args.child (s.down c.args.directory c.args.place c.args.child c.requires.there).live m c.requires.marked w;
       tree = (removal_done _ _ s c.args.directory c.args.place c.args.child c.weights-back.result m i 0 c.weights-back.ensures).tree;
       stays = removal_stays _ _ s c.args.directory c.args.place c.args.child c.weights-back.result m i;
-      records = c.release-marked.ensures.spare;
+      records = c.release_marked.ensures.spare;
     }

@@ -52,8 +52,8 @@ written c =
     move (look c.args.self.now.table) (look c.charge.new.self) (look c.regrant.new.self) c.args.directory c.args.place c.args.child c.payer-payer.result c.args.up c.args.down
     c.requires.there c.requires.cell c.payer-payer.ensures c.charge.ensures.after c.regrant.ensures.after
 
-pub invariant-of-self : goal.invariant-of-self
-invariant-of-self c = (
+pub invariant_of-self : goal.invariant_of-self
+invariant_of-self c = (
   c.regrant.ensures.size ∙ c.charge.ensures.size ∙ c.args.self.now.sized,
   (
     c.args.self.now.roomy,

@@ -7,11 +7,11 @@ use Rattle.tables.specs.Objects.{root_alone}
 use Rattle.objects.proofs.Fresh.{fresh_tree, kept_as}
 use Rattle.objects.proofs.objects.Objects.new.Goals as goal
 
-pub invariant-of-result : goal.invariant-of-result
-invariant-of-result c =
-    let spare = c.in-ok-spare.ensures in
-    let unused = c.in-ok-unused.ensures in
-    let table = c.in-ok-table.ensures in
+pub invariant_of-result : goal.invariant_of-result
+invariant_of-result c =
+    let spare = c.in_ok-spare.ensures in
+    let unused = c.in_ok-unused.ensures in
+    let table = c.in_ok-table.ensures in
     let popped = c.pop.ensures in
     let alone = table.nodes ∙ ap (λ (x : Cell). root_alone (dir c.args.root (Some x))) c.new_cell.ensures in
     let room = spare.room in
@@ -34,9 +34,9 @@ invariant-of-result c =
 
 pub returns : goal.returns
 returns c =
-    let alone = c.in-ok-table.ensures.nodes ∙ ap (λ (x : Cell). root_alone (dir c.args.root (Some x))) c.new_cell.ensures in
+    let alone = c.in_ok-table.ensures.nodes ∙ ap (λ (x : Cell). root_alone (dir c.args.root (Some x))) c.new_cell.ensures in
     record {
       tree = λ w. ap (λ (a : Nodes). tree_of w a) alone ∙ fresh_tree c.args.root c.args.count w;
       nodes = alone;
-      records = c.in-ok-spare.ensures.room;
+      records = c.in_ok-spare.ensures.room;
     }

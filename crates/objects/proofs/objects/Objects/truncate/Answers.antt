@@ -15,11 +15,11 @@ use Rattle.tables.specs.Objects.{look}
 use Rattle.tables.specs.Stacks.{stack_item, stack_height, stack_room}
 use Rattle.tables.proofs.Within.{live_within}
 use Rattle.objects.proofs.Charging.{can_charge}
-use Rattle.objects.proofs.objects.Objects.truncate.Goals.{After-charge, After-drop-pages}
+use Rattle.objects.proofs.objects.Objects.truncate.Goals.{After-charge, After-drop_pages}
 use Rattle.objects.proofs.objects.Objects.truncate.Goals as goal
 
-pub present-from-back-requires : goal.present-from-back-requires
-present-from-back-requires c =
+pub present_from-back-requires : goal.present_from-back-requires
+present_from-back-requires c =
     record { index = live_within c.args.self.now.table c.args.segment (seg_live _ c.requires.segment); keep = c.requires.keep }
 
 pub payer-payer-requires : goal.payer-payer-requires
@@ -30,23 +30,23 @@ charge-requires c =
     let t = c.args.self.now.table in
     let k = c.args.self.now.kept in
     let i = c.args.segment in
-    let bound = truncation_gives k i c.args.keep c.present-from-back.result c.requires.segment c.present-from-back.ensures.value in
-    can_charge t k i c.payer-payer.result 0 c.present-from-back.result (seg_live (look t i).body c.requires.segment) c.payer-payer.ensures (omega arith) (omega arith) (omega arith)
+    let bound = truncation_gives k i c.args.keep c.present_from-back.result c.requires.segment c.present_from-back.ensures.value in
+    can_charge t k i c.payer-payer.result 0 c.present_from-back.result (seg_live (look t i).body c.requires.segment) c.payer-payer.ensures (omega arith) (omega arith) (omega arith)
 
 -- charging changes no page
 pages_charged : (c : After-charge) → (x : ℕ) → (look c.charge.new.self x).page ≡ (look c.args.self.now.table x).page
 pages_charged c x =
     let a = look c.args.self.now.table in
-    ap (λ (f : Nodes). (f x).page) (charged_is a c.args.segment c.payer-payer.result 0 c.present-from-back.result (look c.charge.new.self) c.payer-payer.ensures c.charge.ensures.after)
-    ∙ charging_pages 0 c.present-from-back.result a c.args.segment x
+    ap (λ (f : Nodes). (f x).page) (charged_is a c.args.segment c.payer-payer.result 0 c.present_from-back.result (look c.charge.new.self) c.payer-payer.ensures c.charge.ensures.after)
+    ∙ charging_pages 0 c.present_from-back.result a c.args.segment x
 
-pub drop-pages-requires : goal.drop-pages-requires
-drop-pages-requires c =
+pub drop_pages-requires : goal.drop_pages-requires
+drop_pages-requires c =
     let t = c.args.self.now.table in
     let i = c.args.segment in
     let low = live_within t i (seg_live (look t i).body c.requires.segment) in
     let size = c.charge.ensures.size in
-    let same = pages_charged (goal.at.drop-pages-requires c).After-charge in
+    let same = pages_charged (goal.at.drop_pages-requires c).After-charge in
     record {
       index = omega arith;
       keep = c.requires.keep;
@@ -54,27 +54,27 @@ drop-pages-requires c =
       served = ∥∥₁_map c.args.self.now.kept (λ z. served_kept (stack_room c.args.self.now.spare) (stack_item c.args.self.now.spare) (stack_height c.args.self.now.spare) (look t) (look c.charge.new.self) same z.served);
     }
 
-written : (c : After-drop-pages) → Truncation (look c.args.self.now.table) (look c.drop-pages.new.table) c.args.segment c.present-from-back.result c.args.keep
+written : (c : After-drop_pages) → Truncation (look c.args.self.now.table) (look c.drop_pages.new.table) c.args.segment c.present_from-back.result c.args.keep
 written c =
-    truncation (look c.args.self.now.table) (look c.charge.new.self) (look c.drop-pages.new.table) c.args.segment c.payer-payer.result c.present-from-back.result c.args.keep
-    c.requires.segment c.payer-payer.ensures c.charge.ensures.after c.drop-pages.ensures.after
+    truncation (look c.args.self.now.table) (look c.charge.new.self) (look c.drop_pages.new.table) c.args.segment c.payer-payer.result c.present_from-back.result c.args.keep
+    c.requires.segment c.payer-payer.ensures c.charge.ensures.after c.drop_pages.ensures.after
 
-pub invariant-of-self : goal.invariant-of-self
-invariant-of-self c =
-    let room = c.drop-pages.ensures.room in
+pub invariant_of-self : goal.invariant_of-self
+invariant_of-self c =
+    let room = c.drop_pages.ensures.room in
     let sized = c.args.self.now.sized in
     let roomy = c.args.self.now.roomy in
     let one = c.charge.ensures.size in
-    let two = c.drop-pages.ensures.size in
-    let s = c.drop-pages.new.spare in
-    let b = look c.drop-pages.new.table in (
+    let two = c.drop_pages.ensures.size in
+    let s = c.drop_pages.new.spare in
+    let b = look c.drop_pages.new.table in (
       omega arith,
       (
         omega arith,
         (
           subst (λ (n : ℕ). ∥ Kept n b (stack_item c.args.self.now.unused) (stack_height c.args.self.now.unused) (stack_item s) (stack_height s) ∥₁) (sym room)
-              (truncation_kept c.args.self.now.kept c.args.segment c.present-from-back.result c.args.keep (written c) (stack_item s) (stack_height s) c.present-from-back.ensures.value
-              (subst (λ (n : ℕ). ∥ Served n (stack_item s) (stack_height s) b ∥₁) room c.drop-pages.ensures.served)),
+              (truncation_kept c.args.self.now.kept c.args.segment c.present_from-back.result c.args.keep (written c) (stack_item s) (stack_height s) c.present_from-back.ensures.value
+              (subst (λ (n : ℕ). ∥ Served n (stack_item s) (stack_height s) b ∥₁) room c.drop_pages.ensures.served)),
           tt,
         ),
       ),
@@ -84,10 +84,10 @@ pub returns : goal.returns
 returns c =
     let a = look c.args.self.now.table in
     let s = formed c.args.self.now.kept in
-    let i = written (goal.at.returns c).After-drop-pages in
+    let i = written (goal.at.returns c).After-drop_pages in
     record {
-      value = λ w. c.present-from-back.ensures.value ∙ sym (dropped_links w c.args.keep (a c.args.segment).page);
-      tree = (truncation_done _ _ s c.args.segment c.present-from-back.result c.args.keep i 0 c.present-from-back.ensures.value).tree;
-      stays = truncation_stays _ _ s c.args.segment c.present-from-back.result c.args.keep i;
-      records = c.drop-pages.ensures.room;
+      value = λ w. c.present_from-back.ensures.value ∙ sym (dropped_links w c.args.keep (a c.args.segment).page);
+      tree = (truncation_done _ _ s c.args.segment c.present_from-back.result c.args.keep i 0 c.present_from-back.ensures.value).tree;
+      stays = truncation_stays _ _ s c.args.segment c.present_from-back.result c.args.keep i;
+      records = c.drop_pages.ensures.room;
     }

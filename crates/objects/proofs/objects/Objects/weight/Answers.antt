@@ -10,8 +10,8 @@ use Rattle.tables.specs.Cells.{cell_of}
 use Rattle.tables.specs.Objects.{look}
 use Rattle.objects.proofs.objects.Objects.weight.Goals as goal
 
-pub overflow-add-result : goal.overflow-add-result
-overflow-add-result c =
+pub overflow_add-result : goal.overflow_add-result
+overflow_add-result c =
     let low = c.requires in
     let few = c.args.self.now.table.few in
     let small = weight_small c.args.self.now.kept c.args.index (omega arith) in
@@ -23,8 +23,8 @@ overflow-add-result c =
     let present = c.present.ensures in
     record { fits = omega arith }
 
-pub overflow-add-result-in-Some : goal.overflow-add-result-in-Some
-overflow-add-result-in-Some c =
+pub overflow_add-result-in-Some : goal.overflow_add-result-in-Some
+overflow_add-result-in-Some c =
     let low = c.requires in
     let few = c.args.self.now.table.few in
     let small = weight_small c.args.self.now.kept c.args.index (omega arith) in

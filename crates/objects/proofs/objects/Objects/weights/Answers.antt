@@ -15,8 +15,8 @@ pub loop-index-init : goal.loop-index-init
 unfolding sum
 loop-index-init c = refl
 
-pub overflow-add-total : goal.overflow-add-total
-overflow-add-total c =
+pub overflow_add-total : goal.overflow_add-total
+overflow_add-total c =
     let a = look c.args.self.now.table in
     let i = c.loop-index.index in
     let next = sum_next i (λ k. cond (get_or c.args.marks.now k false) (weight (a k)) 0) in

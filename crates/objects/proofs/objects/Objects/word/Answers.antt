@@ -26,4 +26,4 @@ returns-in-Some g c =
     let low : page < stack_room c.args.self.now.spare = ∥∥₁_elim c.args.self.now.kept le_prop (λ z. z.served.used c.args.segment (at / 16) page is) in
     let fits = c.requires.volume in
     let there : inside ws page (at % 16) ≡ true = and_from _ _ (lt-ltb page (pages_in ws) (omega arith)) (lt-ltb (at % 16) 16 (omega arith)) in
-    c.unwrap-or.ensures ∙ ap (λ (o : Option ℕ). unwrap_or o 0) (c.read.ensures ∙ sym (inside_read ws page (at % 16) there)) ∙ sym (word_present (told ws) links at page is)
+    c.unwrap_or.ensures ∙ ap (λ (o : Option ℕ). unwrap_or o 0) (c.read.ensures ∙ sym (inside_read ws page (at % 16) there)) ∙ sym (word_present (told ws) links at page is)

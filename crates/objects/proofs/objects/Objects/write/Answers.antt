@@ -19,7 +19,7 @@ use Rattle.tables.proofs.Within.{live_within}
 use Rattle.objects.specs.Writes.{told, lacks}
 use Rattle.objects.proofs.Charging.{can_charge}
 use Rattle.objects.proofs.objects.Objects.write.Given.{Over}
-use Rattle.objects.proofs.objects.Objects.write.Goals.{After-missing-count, After-charge, After-write-words}
+use Rattle.objects.proofs.objects.Objects.write.Goals.{After-missing-count, After-charge, After-write_words}
 use Rattle.objects.proofs.objects.Objects.write.Goals as goal
 
 pub missing-count-requires : goal.missing-count-requires
@@ -51,15 +51,15 @@ pages_charged g c x =
     ap (λ (f : Nodes). (f x).page) (charged_is a c.args.segment c.payer-payer.result c.missing-count.result 0 (look c.charge.new.self) c.payer-payer.ensures c.charge.ensures.after)
     ∙ charging_pages c.missing-count.result 0 a c.args.segment x
 
-pub write-words-requires : goal.write-words-requires
-write-words-requires g c =
+pub write_words-requires : goal.write_words-requires
+write_words-requires g c =
     let t = c.args.self.now.table in
     let k = c.args.self.now.kept in
     let i = c.args.segment in
     let l = seg_live (look t i).body c.requires.segment in
     let low = live_within t i l in
     let size = c.charge.ensures.size in
-    let same = pages_charged g (goal.at.write-words-requires g c).After-charge in
+    let same = pages_charged g (goal.at.write_words-requires g c).After-charge in
     let is = made_links (told (g.V.Volume.words c.args.volume.now)) (look t i).page c.args.first c.args.words.now in
     let paid = c.requires.paid in
     let free = pages_free k i (sum 16 (lacks c.args.first (length c.args.words.now) (look t i).page)) l (omega arith) in
@@ -71,15 +71,15 @@ write-words-requires g c =
       served = ∥∥₁_map k (λ z. served_kept (stack_room c.args.self.now.spare) (stack_item c.args.self.now.spare) (stack_height c.args.self.now.spare) (look t) (look c.charge.new.self) same z.served);
     }
 
-written : (g : Over) (c : After-write-words g)
+written : (g : Over) (c : After-write_words g)
     → Writing (look c.args.self.now.table) (look c.write_words.new.table) (told (g.V.Volume.words c.args.volume.now)) (told (g.V.Volume.words c.write_words.new.volume)) c.args.segment c.missing-count.result c.args.first c.args.words.now
 written g c =
     writing (look c.args.self.now.table) (look c.charge.new.self) (look c.write_words.new.table) (told (g.V.Volume.words c.args.volume.now)) (told (g.V.Volume.words c.write_words.new.volume))
     c.args.segment c.payer-payer.result c.missing-count.result c.args.first c.args.words.now
     c.requires.segment c.requires.small c.payer-payer.ensures c.charge.ensures.after c.write_words.ensures.after c.write_words.ensures.own c.write_words.ensures.others
 
-pub invariant-of-self : goal.invariant-of-self
-invariant-of-self g c =
+pub invariant_of-self : goal.invariant_of-self
+invariant_of-self g c =
     let room = c.write_words.ensures.room in
     let sized = c.args.self.now.sized in
     let roomy = c.args.self.now.roomy in
@@ -87,7 +87,7 @@ invariant-of-self g c =
     let two = c.write_words.ensures.size in
     let s = c.write_words.new.spare in
     let b = look c.write_words.new.table in
-    let is = counted g (goal.at.invariant-of-self g c).After-missing-count in
+    let is = counted g (goal.at.invariant_of-self g c).After-missing-count in
     let paid = c.requires.paid in (
       omega arith,
       (
@@ -104,7 +104,7 @@ invariant-of-self g c =
 pub returns : goal.returns
 returns g c =
     let s = formed c.args.self.now.kept in
-    let i = written g (goal.at.returns g c).After-write-words in
+    let i = written g (goal.at.returns g c).After-write_words in
     let e = c.write_words.ensures in
     let same = e.pages in
     let before = (g.met.V.Volume.whole c.args.volume.now).paged in

@@ -9,6 +9,6 @@ use Rattle.tables.proofs.known_table.KnownTable.new.Goals as goal
 
 pub returns : goal.returns
 returns c =
-    let at = c.in-ok-at.at in
+    let at = c.in_ok-at.at in
     let free : (k : ℕ) → get_or (vec_items at) k Free ≡ Free = search rules in
-    known_assign (record { at = at; full = c.in-ok-at.ensures.len }) 0 (Means 0) (omega arith) ∙ ap (λ (f : ℕ → Known). assign f 0 (Means 0)) (fun_ext free)
+    known_assign (record { at = at; full = c.in_ok-at.ensures.len }) 0 (Means 0) (omega arith) ∙ ap (λ (f : ℕ → Known). assign f 0 (Means 0)) (fun_ext free)

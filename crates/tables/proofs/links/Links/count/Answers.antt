@@ -5,7 +5,7 @@ use Rattle.forest.specs.Forest.{has}
 use Rattle.tables.specs.Links.{link}
 use Rattle.tables.proofs.Counts.{sum_next, has_some, has_none}
 use Rattle.tables.proofs.links.Links.count.Goals as goal
-use Rattle.tables.proofs.links.Links.count.Goals.{then-is-some, else-is-some}
+use Rattle.tables.proofs.links.Links.count.Goals.{then-is_some, else-is_some}
 
 pub loop-index-init : goal.loop-index-init
 unfolding sum
@@ -16,7 +16,7 @@ loop-index-preserved c =
     let next = sum_next c.loop-index.index (λ k. has (link c.args.self.now k)) in
     let here = ap has c.find.ensures in
     let was = c.loop-index.invariant.1 in
-    elim c.if-is-some.branch [
-      | then-is-some w ↦ let h = has_some _ (sym w.if-is-some.ensures) in let n = w.count-is in (omega arith, omega arith)
-      | else-is-some w ↦ let h = has_none _ (sym w.if-is-some.ensures) in let n = w.count-is in (omega arith, omega arith)
+    elim c.if-is_some.branch [
+      | then-is_some w ↦ let h = has_some _ (sym w.if-is_some.ensures) in let n = w.count-is in (omega arith, omega arith)
+      | else-is_some w ↦ let h = has_none _ (sym w.if-is_some.ensures) in let n = w.count-is in (omega arith, omega arith)
     ]

@@ -5,7 +5,7 @@ use Rattle.tables.proofs.stack.Stack.counting_down.Goals as goal
 
 pub loop-number-preserved : goal.loop-number-preserved
 loop-number-preserved c =
-    let pushed = c.in-ok-push.ensures in
+    let pushed = c.in_ok-push.ensures in
     let taken = c.loop-number-test.true in
     let len = pushed.len in
     let inv = c.loop-number.invariant in

@@ -6,5 +6,5 @@ use Rattle.tables.proofs.table.Table.clear.Goals as goal
 
 pub returns : goal.returns
 returns c =
-    let o = c.index-mut-object.result.now in
-    record { after = look_changed c.args.self.now c.args.index o _ cleared c.requires c.index-mut-object.ensures.value (node_cleared o c.clear.new.self c.clear-2.new.self c.clear.ensures c.clear-2.ensures); size = refl }
+    let o = c.index_mut-object.result.now in
+    record { after = look_changed c.args.self.now c.args.index o _ cleared c.requires c.index_mut-object.ensures.value (node_cleared o c.clear.new.self c.clear-2.new.self c.clear.ensures c.clear-2.ensures); size = refl }

@@ -8,4 +8,4 @@ use Rattle.tables.proofs.table.Table.set_body.Goals as goal
 pub returns : goal.returns
 returns c =
     let body = body_of c.args.body in
-    record { after = look_changed c.args.self.now c.args.index c.index-mut.result.now _ (λ n. with_body n body) c.requires c.index-mut.ensures.value refl; size = refl }
+    record { after = look_changed c.args.self.now c.args.index c.index_mut.result.now _ (λ n. with_body n body) c.requires c.index_mut.ensures.value refl; size = refl }

@@ -6,5 +6,5 @@ use Rattle.tables.proofs.table.Table.set_page.Goals as goal
 
 pub returns : goal.returns
 returns c =
-    let o = c.index-mut.result.now in
-    record { after = look_changed c.args.self.now c.args.index o _ (λ n. with_page n c.args.page c.args.to) c.requires.index c.index-mut.ensures.value (node_page o c.args.page c.args.to c.requires.page); size = refl }
+    let o = c.index_mut.result.now in
+    record { after = look_changed c.args.self.now c.args.index o _ (λ n. with_page n c.args.page c.args.to) c.requires.index c.index_mut.ensures.value (node_page o c.args.page c.args.to c.requires.page); size = refl }

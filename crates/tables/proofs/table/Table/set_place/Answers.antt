@@ -7,4 +7,4 @@ use Rattle.tables.proofs.table.Table.set_place.Goals as goal
 pub returns : goal.returns
 returns c =
     let a = c.args in
-    record { after = look_changed a.self.now a.index c.index-mut-object.result.now _ (λ n. with_place n a.parent a.place a.depth a.payer) c.requires c.index-mut-object.ensures.value refl; size = refl }
+    record { after = look_changed a.self.now a.index c.index_mut-object.result.now _ (λ n. with_place n a.parent a.place a.depth a.payer) c.requires c.index_mut-object.ensures.value refl; size = refl }

@@ -14,18 +14,18 @@ returns-then-page-first g c =
     let page = first_page xs ys (g.met.A.Volume.whole v.first) (g.met.B.Volume.whole v.second) c.args.page (omega arith) in
     part_read (λ l. joined l ys) xs c.args.page c.args.page page c.args.word _ c.read.ensures
 
-pub returns-then-page-lt-MAX-PAGES : goal.returns-then-page-lt-MAX-PAGES
-returns-then-page-lt-MAX-PAGES g c =
+pub returns-then-page-lt-MAX_PAGES : goal.returns-then-page-lt-MAX_PAGES
+returns-then-page-lt-MAX_PAGES g c =
     let v = c.args.self.now in
     let xs = g.A.Volume.words v.first in
     let ys = g.B.Volume.words v.second in
-    let page = second_page xs ys (g.met.A.Volume.whole v.first) (g.met.B.Volume.whole v.second) c.args.page _ c.pages-first.ensures c.if-page-first.false c.if-page-lt-MAX-PAGES.true in
-    part_read (joined xs) ys _ c.args.page page c.args.word _ c.read-then-page-lt-MAX-PAGES.ensures
+    let page = second_page xs ys (g.met.A.Volume.whole v.first) (g.met.B.Volume.whole v.second) c.args.page _ c.pages-first.ensures c.if-page-first.false c.if-page-lt-MAX_PAGES.true in
+    part_read (joined xs) ys _ c.args.page page c.args.word _ c.read-then-page-lt-MAX_PAGES.ensures
 
-pub returns-else-page-lt-MAX-PAGES : goal.returns-else-page-lt-MAX-PAGES
-returns-else-page-lt-MAX-PAGES g c =
+pub returns-else-page-lt-MAX_PAGES : goal.returns-else-page-lt-MAX_PAGES
+returns-else-page-lt-MAX_PAGES g c =
     let v = c.args.self.now in
     let xs = g.A.Volume.words v.first in
     let ys = g.B.Volume.words v.second in
-    let outside = past_joined xs ys (g.met.A.Volume.whole v.first) (g.met.B.Volume.whole v.second) c.args.page c.args.word c.if-page-lt-MAX-PAGES.false in
+    let outside = past_joined xs ys (g.met.A.Volume.whole v.first) (g.met.B.Volume.whole v.second) c.args.page c.args.word c.if-page-lt-MAX_PAGES.false in
     outside_read (joined xs ys) c.args.page c.args.word outside

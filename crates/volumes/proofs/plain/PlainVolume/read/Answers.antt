@@ -4,4 +4,4 @@ use Rattle.volumes.proofs.Plains.{found_read}
 use Rattle.volumes.proofs.plain.PlainVolume.read.Goals as goal
 
 pub returns : goal.returns
-returns c = found_read (vec_items c.args.self.now.words) c.args.page c.args.word _ c.in-ok-index.ensures _ c.index.ensures
+returns c = found_read (vec_items c.args.self.now.words) c.args.page c.args.word _ c.in_ok-index.ensures _ c.index.ensures

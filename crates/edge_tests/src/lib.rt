@@ -1,4 +1,5 @@
 //! Tests at the edges, in a crate of their own: a crate with tests is proved twice.
+#![tactic(auto)]
 
 #[cfg(test)]
 mod frame_tests;

@@ -1,4 +1,5 @@
 //! Reads a listing of calls from standard input and says in words what each line asks for.
+#![tactic(auto)]
 
 mod description;
 

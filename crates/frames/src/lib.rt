@@ -1,4 +1,5 @@
 //! Call frames: the words by which a process asks the store for one of its eleven calls.
+#![tactic(auto)]
 
 pub mod call;
 mod decoder;

@@ -1,4 +1,6 @@
 //! Code over any part order, as a store has it: the laws come with the bound.
+#![tactic(auto)]
+
 ghost use Rattle.std.specs.Prelude.{◌≡◌, true, Decides};
 ghost use Rattle.labels.specs.Labels.{orders_of, valid, below};
 ghost use Rattle.label_clients.specs.Chains.{chain};

@@ -1,4 +1,5 @@
 //! Labels: a security word and an integrity word, each under an order of its own.
+#![tactic(auto)]
 
 mod edges;
 mod label;

@@ -1,4 +1,5 @@
 //! The objects of a store, and every step that changes them.
+#![tactic(auto)]
 
 mod create;
 mod delete;

@@ -1,4 +1,5 @@
 //! The rules of the store as definitions, and the laws of its histories.
+#![tactic(auto)]
 
 mod denial;
 pub mod laws;

@@ -1,4 +1,5 @@
 //! The memory of a store as plain tables, each allocated once.
+#![tactic(auto)]
 
 mod body;
 mod cell;

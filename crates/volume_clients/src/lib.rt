@@ -1,4 +1,6 @@
 //! Code over volumes, proved from their contracts alone.
+#![tactic(auto)]
+
 ghost use Rattle.std.specs.Prelude.{◌≡◌};
 ghost use Rattle.volumes.specs.Pages.{written};
 ghost use Rattle.volumes.specs.Volumes.{used, unused};

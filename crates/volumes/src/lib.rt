@@ -1,4 +1,5 @@
 //! Volumes: a fixed number of pages of words, read and written word by word.
+#![tactic(auto)]
 
 mod joined;
 mod plain;

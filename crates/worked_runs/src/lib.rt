@@ -1,4 +1,6 @@
 //! Runs of the store, worked out by hand from the rules, which the definitions have to give.
+#![tactic(auto)]
+
 ghost use Rattle.worked_runs.specs.Worked.{Worked};
 
 /// Every call and every denial, over literal frames: the definitions answer each as it was worked out.

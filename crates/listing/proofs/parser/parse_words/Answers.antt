@@ -19,4 +19,4 @@ loop-piece-preserved c =
     let next = c.next.new.self in
     let steps = c.in-Some.ensures.steps in
     let word = c.in-Some-parse_word.word in
-    (tt, omega arith, omega arith, next_word_adds (vec_items loop.words) (chunks_rest it) c.args.bytes.now loop.invariant.3 (chunks_size it) loop.invariant.2 c.in-Some.piece.now (chunks_rest next) steps.1 word (sym c.in-Some-parse_word.ensures) (vec_items c.push.new.self) c.in_ok-push.ensures.items)
+    (omega arith, omega arith, omega arith, next_word_adds (vec_items loop.words) (chunks_rest it) c.args.bytes.now loop.invariant.3 (chunks_size it) loop.invariant.2 c.in-Some.piece.now (chunks_rest next) steps.1 word (sym c.in-Some-parse_word.ensures) (vec_items c.push.new.self) c.in_ok-push.ensures.items)

@@ -84,20 +84,16 @@ invariant_of-self c =
     let four = c.release_marked.ensures.unused in
     let u = c.release_marked.new.unused in
     let s = c.release_marked.new.spare in
-    let b = look c.release_marked.new.table in (
-      omega arith,
-      (
-        omega arith,
-        (
-          subst (λ (n : ℕ). ∥ Kept n b (stack_item u) (stack_height u) (stack_item s) (stack_height s) ∥₁) (sym room)
-              (removal_kept c.args.self.now.kept c.args.directory c.args.place c.args.child c.weights-back.result (λ z. get_or c.args.marks.now z false) (written c)
-              (stack_item u) (stack_height u) (stack_item s) (stack_height s) c.weights-back.ensures
-              (subst (λ (n : ℕ). ∥ Stocked n (stack_item u) (stack_height u) b ∥₁) room c.release_marked.ensures.stocked)
-              (subst (λ (n : ℕ). ∥ Served n (stack_item s) (stack_height s) b ∥₁) room c.release_marked.ensures.served)),
-          tt,
-        ),
-      ),
-    )
+    let b = look c.release_marked.new.table in
+    record {
+      sized = omega arith;
+      roomy = omega arith;
+      kept = subst (λ (n : ℕ). ∥ Kept n b (stack_item u) (stack_height u) (stack_item s) (stack_height s) ∥₁) (sym room)
+          (removal_kept c.args.self.now.kept c.args.directory c.args.place c.args.child c.weights-back.result (λ z. get_or c.args.marks.now z false) (written c)
+          (stack_item u) (stack_height u) (stack_item s) (stack_height s) c.weights-back.ensures
+          (subst (λ (n : ℕ). ∥ Stocked n (stack_item u) (stack_height u) b ∥₁) room c.release_marked.ensures.stocked)
+          (subst (λ (n : ℕ). ∥ Served n (stack_item s) (stack_height s) b ∥₁) room c.release_marked.ensures.served));
+    }
 
 pub returns : goal.returns
 returns c =

@@ -90,17 +90,13 @@ invariant_of-self c =
     let one = c.charge.ensures.size in
     let two = c.set_entry.ensures.size in
     let three = c.set_body.ensures.size in
-    let four = c.set_place.ensures.size in (
-      omega arith,
-      (
-        c.pop-index.ensures.room ∙ c.args.self.now.roomy,
-        (
-          insertion_kept c.args.self.now.kept c.args.directory c.args.place c.pop-index.result c.args.taken (body_of c.args.body) (written c)
-              _ _ c.pop-index.ensures.items c.pop-index.ensures.height c.pop-index.ensures.value c.requires.fit c.requires.cost c.requires.paid,
-          tt,
-        ),
-      ),
-    )
+    let four = c.set_place.ensures.size in
+    record {
+      sized = omega arith;
+      roomy = c.pop-index.ensures.room ∙ c.args.self.now.roomy;
+      kept = insertion_kept c.args.self.now.kept c.args.directory c.args.place c.pop-index.result c.args.taken (body_of c.args.body) (written c)
+          _ _ c.pop-index.ensures.items c.pop-index.ensures.height c.pop-index.ensures.value c.requires.fit c.requires.cost c.requires.paid;
+    }
 
 pub returns : goal.returns
 returns c =

@@ -53,13 +53,12 @@ written c =
     c.requires.there c.requires.cell c.payer-payer.ensures c.charge.ensures.after c.regrant.ensures.after
 
 pub invariant_of-self : goal.invariant_of-self
-invariant_of-self c = (
-  c.regrant.ensures.size ∙ c.charge.ensures.size ∙ c.args.self.now.sized,
-  (
-    c.args.self.now.roomy,
-    (move_kept c.args.self.now.kept c.args.directory c.args.place c.args.child c.args.up c.args.down (written c) c.requires.paid c.requires.owed, tt),
-  ),
-)
+invariant_of-self c =
+    record {
+      sized = c.regrant.ensures.size ∙ c.charge.ensures.size ∙ c.args.self.now.sized;
+      roomy = c.args.self.now.roomy;
+      kept = move_kept c.args.self.now.kept c.args.directory c.args.place c.args.child c.args.up c.args.down (written c) c.requires.paid c.requires.owed;
+    }
 
 pub returns : goal.returns
 returns c =

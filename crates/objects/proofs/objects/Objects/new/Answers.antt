@@ -13,28 +13,24 @@ invariant_of-result c =
     let unused = c.in_ok-unused.ensures in
     let table = c.in_ok-table.ensures in
     let popped = c.pop.ensures in
-    let alone = table.nodes ∙ ap (λ (x : Cell). root_alone (dir c.args.root (Some x))) c.new_cell.ensures in
+    let alone = table.nodes ∙ ap (λ (x : Cell). root_alone (dir c.args.root (Some x))) c.new-cell.ensures in
     let room = spare.room in
     let more = unused.room in
     let same = popped.room in
     let size = table.size in
     let full = unused.height in
-    let taken = popped.height in (
-      omega arith,
-      (
-        omega arith,
-        (
-          ∣ kept_as c.args.root c.args.count room alone (omega arith) spare.height c.requires.few
-              (λ x h. let is = unused.items x (omega arith) in ap (λ f. f x) popped.items ∙ is ∙ omega arith)
-              (λ x h. spare.items x h ∙ omega arith) ∣₁,
-          tt,
-        ),
-      ),
-    )
+    let taken = popped.height in
+    record {
+      sized = omega arith;
+      roomy = omega arith;
+      kept = ∣ kept_as c.args.root c.args.count room alone (omega arith) spare.height c.requires.few
+          (λ x h. let is = unused.items x (omega arith) in ap (λ f. f x) popped.items ∙ is ∙ omega arith)
+          (λ x h. spare.items x h ∙ omega arith) ∣₁;
+    }
 
 pub returns : goal.returns
 returns c =
-    let alone = c.in_ok-table.ensures.nodes ∙ ap (λ (x : Cell). root_alone (dir c.args.root (Some x))) c.new_cell.ensures in
+    let alone = c.in_ok-table.ensures.nodes ∙ ap (λ (x : Cell). root_alone (dir c.args.root (Some x))) c.new-cell.ensures in
     record {
       tree = λ w. ap (λ (a : Nodes). tree_of w a) alone ∙ fresh_tree c.args.root c.args.count w;
       nodes = alone;

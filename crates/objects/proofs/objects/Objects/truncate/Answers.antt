@@ -67,18 +67,14 @@ invariant_of-self c =
     let one = c.charge.ensures.size in
     let two = c.drop_pages.ensures.size in
     let s = c.drop_pages.new.spare in
-    let b = look c.drop_pages.new.table in (
-      omega arith,
-      (
-        omega arith,
-        (
-          subst (λ (n : ℕ). ∥ Kept n b (stack_item c.args.self.now.unused) (stack_height c.args.self.now.unused) (stack_item s) (stack_height s) ∥₁) (sym room)
-              (truncation_kept c.args.self.now.kept c.args.segment c.present_from-back.result c.args.keep (written c) (stack_item s) (stack_height s) c.present_from-back.ensures.value
-              (subst (λ (n : ℕ). ∥ Served n (stack_item s) (stack_height s) b ∥₁) room c.drop_pages.ensures.served)),
-          tt,
-        ),
-      ),
-    )
+    let b = look c.drop_pages.new.table in
+    record {
+      sized = omega arith;
+      roomy = omega arith;
+      kept = subst (λ (n : ℕ). ∥ Kept n b (stack_item c.args.self.now.unused) (stack_height c.args.self.now.unused) (stack_item s) (stack_height s) ∥₁) (sym room)
+          (truncation_kept c.args.self.now.kept c.args.segment c.present_from-back.result c.args.keep (written c) (stack_item s) (stack_height s) c.present_from-back.ensures.value
+          (subst (λ (n : ℕ). ∥ Served n (stack_item s) (stack_height s) b ∥₁) room c.drop_pages.ensures.served));
+    }
 
 pub returns : goal.returns
 returns c =

@@ -88,18 +88,14 @@ invariant_of-self g c =
     let s = c.write_words.new.spare in
     let b = look c.write_words.new.table in
     let is = counted g (goal.at.invariant_of-self g c).After-missing-count in
-    let paid = c.requires.paid in (
-      omega arith,
-      (
-        omega arith,
-        (
-          subst (λ (n : ℕ). ∥ Kept n b (stack_item c.args.self.now.unused) (stack_height c.args.self.now.unused) (stack_item s) (stack_height s) ∥₁) (sym room)
-              (writing_kept c.args.self.now.kept c.args.segment c.missing-count.result c.args.first c.args.words.now (written g c) (stack_item s) (stack_height s) (omega arith) is
-              (subst (λ (n : ℕ). ∥ Served n (stack_item s) (stack_height s) b ∥₁) room c.write_words.ensures.served)),
-          tt,
-        ),
-      ),
-    )
+    let paid = c.requires.paid in
+    record {
+      sized = omega arith;
+      roomy = omega arith;
+      kept = subst (λ (n : ℕ). ∥ Kept n b (stack_item c.args.self.now.unused) (stack_height c.args.self.now.unused) (stack_item s) (stack_height s) ∥₁) (sym room)
+          (writing_kept c.args.self.now.kept c.args.segment c.missing-count.result c.args.first c.args.words.now (written g c) (stack_item s) (stack_height s) (omega arith) is
+          (subst (λ (n : ℕ). ∥ Served n (stack_item s) (stack_height s) b ∥₁) room c.write_words.ensures.served));
+    }
 
 pub returns : goal.returns
 returns g c =

@@ -14,7 +14,6 @@ use Rattle.forest.proofs.Depth.{dir_live}
 use Rattle.forest.proofs.Beneath.{path_reaches}
 use Rattle.forest.proofs.Levels.{directory_at}
 use Rattle.forest.proofs.Pays.{payer_live, charge_sound, charge_other, charge_links, charge_dir, charge_live, charge_path, charge_pages, charge_payer, charge_tree}
-use Rattle.forest.proofs.Created as creation
 use Rattle.forest.proofs.Created.{Created, created, created_sound, created_path, created_live, created_tree}
 use Rattle.forest.proofs.Accounts.{accounted_after, fair_change, place_none}
 

@@ -14,7 +14,6 @@ use Rattle.forest.proofs.Depth.{dir_live}
 use Rattle.forest.proofs.Beneath.{path_reaches, parent_depth, parent_live}
 use Rattle.forest.proofs.Levels.{at_tree, directory_at, path_at_place, modified_place_after}
 use Rattle.forest.proofs.Pays.{charge_sound, charge_other, charge_live, charge_path, charge_pages, charge_tree, paid_sound, paid_path, recelled_tree}
-use Rattle.forest.proofs.Rebodied as rebodied
 use Rattle.forest.proofs.Found.{place_tree, stands}
 use Rattle.forest.proofs.Tally.{tally_bound, burden, burden_tally}
 use Rattle.forest.proofs.Accounts.{accounted_after, fair_change, place_some, table_records}

@@ -16,7 +16,6 @@ use Rattle.forest.proofs.Refine.{reach_append}
 use Rattle.rules.proofs.Choices.{and_left, and_right}
 use Rattle.forest.proofs.Levels.{directory_at}
 use Rattle.forest.proofs.Pays.{charge_sound, charge_links, charge_live, charge_was, charge_path, charge_tree}
-use Rattle.forest.proofs.Deleted as deletion
 use Rattle.forest.proofs.Deleted.{Deleted, deleted, deleted_sound, deleted_path, deleted_keeps, deleted_tree}
 use Rattle.forest.proofs.Accounts.{accounted_after, fair_change, place_some, subtree_cost}
 

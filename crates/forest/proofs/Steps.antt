@@ -19,7 +19,6 @@ use Rattle.forest.proofs.Insert as insert
 use Rattle.forest.proofs.Remove as removal
 use Rattle.forest.proofs.Moved as moved
 use Rattle.forest.proofs.Truncate as truncation
-use Rattle.forest.proofs.Write as write
 
 -- what holds of a table after a step
 pub record Done (n : ℕ) (a b : Nodes) (q : Path) (x : Effect) : Type 0 where

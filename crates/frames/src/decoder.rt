@@ -33,7 +33,9 @@ fn call_number(frame: &[u32]) -> Result<usize, FrameFault>
 
 /// The call of a number, with its values from index 0 on and its data words.
 fn assemble<'a>(number: usize, values: [u32; MOST_ARGUMENTS], words: &'a [u32]) -> Call<'a>
-    requires { (1 ≤ number) × ((number ≤ 11) × ((number ≡ 9 → slice_index values 2 < 2 ^ 28))) }
+    requires first { 1 ≤ number }
+    requires last { number ≤ 11 }
+    requires amount { number ≡ 9 → slice_index values 2 < 2 ^ 28 }
     ensures { request result ≡ request_of number (λ i. slice_index values i) words.now }
 {
     match number {

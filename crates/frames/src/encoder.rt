@@ -94,7 +94,8 @@ fn check_values(parameters: &[Parameter], values: &[u32]) -> Result<(), FrameFau
 
 /// Puts the arguments behind the head.
 fn put_arguments(parameters: &[Parameter], values: &[u32], buffer: &mut [u32])
-    requires { (length values.now ≡ length parameters.now) × (1 + length parameters.now ≤ length buffer.old) }
+    requires values { length values.now ≡ length parameters.now }
+    requires room { 1 + length parameters.now ≤ length buffer.old }
     ensures { buffer.new ≡ put 1 (argument_words parameters.now values.now) buffer.old }
 {
     for (i, parameter) in parameters.iter().enumerate() {
@@ -112,9 +113,10 @@ fn put_words(words: &[u32], at: usize, buffer: &mut [u32])
 
 /// Puts head, arguments and data words at the buffer's start.
 fn fill(number: usize, parameters: &[Parameter], values: &[u32], words: &[u32], buffer: &mut [u32])
-    requires number_bound { (number < 2 ^ 12) × (length parameters.now + length words.now < 2 ^ 16) }
-    requires values_len { length values.now ≡ length parameters.now }
-    requires words_in_bounds { (1 + length parameters.now) + length words.now ≤ length buffer.old }
+    requires number { number < 2 ^ 12 }
+    requires count { length parameters.now + length words.now < 2 ^ 16 }
+    requires values { length values.now ≡ length parameters.now }
+    requires room { (1 + length parameters.now) + length words.now ≤ length buffer.old }
     ensures { buffer.new ≡ put 0 (frame_of number parameters.now values.now words.now) buffer.old }
 {
     buffer[0] = word::head(number as u32, (parameters.len() + words.len()) as u32);

@@ -69,7 +69,8 @@ impl<'a> Reader<'a> {
         &mut self,
         parameters: &[Parameter],
     ) -> Result<[u32; MOST_ARGUMENTS], FrameFault>
-        requires { (length parameters.now ≤ 5) × (Holds self.old (length parameters.now)) }
+        requires few { length parameters.now ≤ 5 }
+        requires there { Holds self.old (length parameters.now) }
         ensures walked { Walked self.old.at parameters.now (unread self.old) result }
         ensures moved { OnOk result (Moved self.old self.new (length parameters.now)) }
     {

@@ -198,7 +198,8 @@ const CALLS: [Signature; CALL_COUNT] = [
 
 /// What the call of a number takes.
 pub(crate) fn signature_of(number: usize) -> Signature
-    requires { (1 ≤ number) × (number ≤ 11) }
+    requires first { 1 ≤ number }
+    requires last { number ≤ 11 }
     ensures parameters { result.parameters.now ≡ parameters_of number }
     ensures payload { result.payload ≡ data_of number }
 {

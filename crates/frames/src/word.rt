@@ -63,7 +63,8 @@ pub(crate) fn word(kind: u32, value: u32) -> u32
 
 /// The head of a call with so many words to follow.
 pub(crate) fn head(number: u32, count: u32) -> u32
-    requires { (number < 2 ^ 12) × (count < 2 ^ 16) }
+    requires number { number < 2 ^ 12 }
+    requires count { count < 2 ^ 16 }
     ensures { result ≡ head_of number count }
 {
     word(HEAD, number << 16 | count)

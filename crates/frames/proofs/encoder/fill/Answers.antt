@@ -7,7 +7,7 @@ use Rattle.frames.proofs.encoder.fill.Goals as goal
 
 pub returns : goal.returns
 returns c =
-    let n = arguments_length c.args.parameters.now c.args.values.now c.requires.values_len in
+    let n = arguments_length c.args.parameters.now c.args.values.now c.requires.values in
     c.put_words.ensures
     ∙ ap (put (1 + length c.args.parameters.now) c.args.words.now) c.put_arguments.ensures
     ∙ filled c.head.result (length c.args.parameters.now) (argument_words c.args.parameters.now c.args.values.now) c.args.words.now c.args.buffer.now n (omega arith)

@@ -9,7 +9,7 @@ loop-i-preserved c =
     let h = c.in_ok-values.ensures.value in (
       c.argument.ensures.moved.frame ∙ c.loop-i.invariant.0,
       omega arith,
-      goes_on c.args.self.now.at c.loop-i.i c.loop-i.self.at c.args.parameters.now _ _ _ c.loop-i.invariant.0 c.loop-i.invariant.1 c.loop-i-test.true c.requires.1 _ c.loop-i.invariant.2 _ h,
+      goes_on c.args.self.now.at c.loop-i.i c.loop-i.self.at c.args.parameters.now _ _ _ c.loop-i.invariant.0 c.loop-i.invariant.1 c.loop-i-test.true c.requires.there _ c.loop-i.invariant.2 _ h,
       values_more c.args.self.now.at c.loop-i.i c.loop-i.self.at _ _ _ _ c.loop-i.invariant.0 c.loop-i.invariant.1 (omega arith) (omega arith) (value_is _ _ _ _ h) c.loop-i.invariant.3,
     )
 
@@ -19,7 +19,7 @@ returns-in_err-values c =
     let p = err_from_is_err_and c.from_residual.result c.from_residual.ensures.1 in
     record {
       walked = walked_err c.args.self.now.at c.args.parameters.now _ c.from_residual.result c.in_err-values.field-0.0 (p.1 ∙ ap Err p.2)
-          (stops c.args.self.now.at c.loop-i.i c.loop-i.self.at c.args.parameters.now _ _ _ c.loop-i.invariant.0 c.loop-i.invariant.1 c.loop-i-test.true c.requires.1 _ c.loop-i.invariant.2 _ h);
+          (stops c.args.self.now.at c.loop-i.i c.loop-i.self.at c.args.parameters.now _ _ _ c.loop-i.invariant.0 c.loop-i.invariant.1 c.loop-i-test.true c.requires.there _ c.loop-i.invariant.2 _ h);
       moved = IfOk-from_err c.from_residual.result _ c.from_residual.ensures.0;
     }
 

@@ -8,4 +8,6 @@ mod label_tests;
 #[cfg(test)]
 mod listing_tests;
 #[cfg(test)]
+mod table_tests;
+#[cfg(test)]
 mod volume_tests;

@@ -1,5 +1,5 @@
 //! Objects that leave use, with their pages.
-ghost use Rattle.std.specs.Prelude.{◌≡◌, ℕ, suc, ◌<◌, ◌≤◌, true, false, get_or, if◌then◌else◌, None, slice_index_or};
+ghost use Rattle.std.specs.Prelude.{◌≡◌, ℕ, suc, ◌≤◌, true, false, get_or, if◌then◌else◌, None, slice_index_or};
 ghost use Rattle.forest.specs.Nodes.{cleared, IsLive};
 ghost use Rattle.forest.specs.Spares.{Stocked, Served};
 ghost use Rattle.tables.specs.Objects.{look, table_size, change_at};

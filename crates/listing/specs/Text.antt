@@ -1,5 +1,5 @@
 -- How a call is written as a line, and that its line is the one that says it. Assumes nothing.
-use Rattle.std.specs.Prelude.{◌≡◌, ℕ, zero, suc, ◌+◌, ◌/◌, ◌%◌, ◌^◌, ◌<◌, ◌≤◌, cond, List, [], ◌∷◌, ◌++◌, length, Some, nat_lt}
+use Rattle.std.specs.Prelude.{◌≡◌, ℕ, zero, suc, ◌+◌, ◌/◌, ◌%◌, ◌^◌, ◌<◌, ◌≤◌, cond, List, [], ◌∷◌, ◌++◌, length, All, Some, nat_lt}
 use Rattle.listing.specs.Lines.{Submitted, line_in}
 
 -- the capital hexadecimal digit of a number below 16
@@ -20,15 +20,10 @@ words_text (w ∷ ws) = 32 ∷ (hex_text 8 w ++ words_text ws)
 abbrev pub line_text : Submitted → List ℕ
 line_text s = (48 + s.process) ∷ words_text s.frame
 
--- each word has 32 bits
-abbrev pub Words : List ℕ → Type 0
-Words [] = Unit {0}
-Words (w ∷ ws) = (w < 2 ^ 32) × Words ws
-
 -- a call that has a line: one digit for the process, and words of 32 bits, at most 22 in 200 bytes
 pub record Writable (s : Submitted) : Type 0 where
   pub digit : s.process < 10
-  pub words : Words s.frame
+  pub words : All (λ w. w < 2 ^ 32) s.frame
   pub few : length s.frame ≤ 22
 
 -- a line says a call exactly where it is the text of that call

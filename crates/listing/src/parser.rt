@@ -28,13 +28,13 @@ fn hex_digit(byte: u8) -> Option<u32>
     ensures { result ≡ hex_digit byte }
 {
     match byte {
-        b'0'..=b'9' => Some(u32::from(byte - b'0')),
-        b'A'..=b'F' => Some(u32::from(byte - b'A' + 10)),
+        b'0'..=b'9' | b'A'..=b'F' => char::from(byte).to_digit(16),
         _ => None,
     }
 }
 
 /// The number that at most eight hexadecimal digits spell.
+#[tactic(auto, using(crate::proofs::Digits::seven_digits_are_most))]
 fn hex_number(digits: &[u8]) -> Option<u32>
     requires { length digits.now ≤ 8 }
     ensures { result ≡ hex_from 0 digits.now }
@@ -50,16 +50,14 @@ fn hex_number(digits: &[u8]) -> Option<u32>
 fn parse_word(piece: &[u8]) -> Option<u32>
     ensures { result ≡ word_in piece.now }
 {
-    let [space, digits @ ..] = piece else {
-        return None;
-    };
-    if digits.len() != 8 || *space != b' ' {
-        return None;
+    match piece {
+        [b' ', digits @ ..] if digits.len() == 8 => hex_number(digits),
+        _ => None,
     }
-    hex_number(digits)
 }
 
 /// The words that stand one behind the other, and nothing but words.
+#[tactic(auto, using(crate::proofs::Words::word_by_word))]
 fn parse_words(heap: Global, bytes: &[u8]) -> Result<Option<Vec<u32>>, AllocError>
     ensures { IfOk result (λ words. option_map vec_items words ≡ words_in bytes.now) }
 {
@@ -73,9 +71,12 @@ fn parse_words(heap: Global, bytes: &[u8]) -> Result<Option<Vec<u32>>, AllocErro
     Ok(Some(words))
 }
 
-/// What a line without its newline says.
-fn parse(heap: Global, bytes: &[u8]) -> Result<Option<Submission>, AllocError>
-    ensures { IfOk result (λ call. option_map submitted call ≡ line_in bytes.now) }
+/// The call that a line without its newline says, or `None` where it is unreadable. A line is readable exactly
+/// where it is the text of a call of at most 22 words, and then it says that call.
+#[tactic(auto, using(crate::proofs::Texts::one_line_each))]
+pub fn parse_line(heap: Global, bytes: &[u8]) -> Result<Option<Submission>, AllocError>
+    ensures value { IfOk result (λ call. option_map submitted call ≡ line_in bytes.now) }
+    ensures text { OneLineEach }
 {
     if bytes.len() > MAX_LINE {
         return Ok(None);
@@ -86,17 +87,6 @@ fn parse(heap: Global, bytes: &[u8]) -> Result<Option<Submission>, AllocError>
     let Some(process) = decimal_digit(*first) else {
         return Ok(None);
     };
-    let Some(frame) = parse_words(heap, rest)? else {
-        return Ok(None);
-    };
-    Ok(Some(Submission { process, frame }))
-}
-
-/// The call that a line without its newline says, or `None` where it is unreadable. A line is readable exactly
-/// where it is the text of a call of at most 22 words, and then it says that call.
-pub fn parse_line(heap: Global, bytes: &[u8]) -> Result<Option<Submission>, AllocError>
-    ensures value { IfOk result (λ call. option_map submitted call ≡ line_in bytes.now) }
-    ensures text { OneLineEach }
-{
-    parse(heap, bytes)
+    let frame = parse_words(heap, rest)?;
+    Ok(frame.map(|frame| Submission { process, frame }))
 }

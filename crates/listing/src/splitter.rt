@@ -1,8 +1,6 @@
 //! Cuts the bytes of a listing into numbered lines, one byte at a time and in bounded memory.
-ghost use Rattle.std.specs.Prelude.{◌≡◌, ℕ, suc, ◌<◌, List, [], ◌∷◌, ◌++◌, IfOk, Decides, OnErr, OnOk, nat_le};
+ghost use Rattle.std.specs.Prelude.{◌≡◌, ℕ, suc, ◌<◌, ◌≤◌, List, [], ◌∷◌, ◌++◌, IfOk, Decides, OnErr, OnOk, nat_le, vec_len};
 ghost use Rattle.std.specs.Option.{option_map, option_to_list};
-ghost use Rattle.listing.specs.Listings.{numbered, listing};
-ghost use Rattle.listing.specs.Pending.{Bounded, begun_line, pending};
 
 use crate::line::Line;
 use crate::parser::{MAX_LINE, parse_line};
@@ -11,18 +9,22 @@ use std::alloc::{AllocError, Global};
 /// Lines after this one are ignored.
 const MAX_LINES: u32 = 64;
 
-/// How many lines have ended, and the start of the one that has begun: as much of it as tells that it is too long.
+/// How many lines have ended, and the start of the one that has begun: at most 201 bytes, as many as tell that it is
+/// too long.
 #[derive(Drop)]
 pub struct Splitter {
     ended: u32,
     begun: Vec<u8>,
+    pub ghost bounded: { vec_len begun ≤ 201 },
 }
 
 impl Splitter {
+    ghost use Rattle.listing.specs.Listings.{numbered, listing};
+    ghost use Rattle.listing.specs.Pending.{begun_line, pending};
+
     /// A splitter that no byte was given yet: what it will give is the whole listing.
     pub fn new(heap: Global) -> Splitter
         ensures whole { (bs : List ℕ) → pending result bs ≡ listing bs }
-        ensures bounded { Bounded result }
     {
         Splitter {
             ended: 0,
@@ -31,6 +33,7 @@ impl Splitter {
     }
 
     /// Whether no further line will be given, whatever bytes follow.
+    #[tactic(auto, using(crate::proofs::Splits::count_tells_over))]
     pub fn is_over(&self) -> bool
         ensures count { result ≡ nat_le 64 self.now.ended }
         ensures over { Decides result ((bs : List ℕ) → pending self.now bs ≡ []) }
@@ -39,16 +42,16 @@ impl Splitter {
     }
 
     /// Takes the next byte, and gives the line that it ends. Where memory is wanting the byte is not taken.
+    #[tactic(auto, using(crate::proofs::Splits::byte_by_byte))]
     pub fn push(&mut self, heap: Global, byte: u8) -> Result<Option<Line>, AllocError>
         ensures given { IfOk result (λ line. (bs : List ℕ) → pending self.old (byte ∷ bs) ≡ option_to_list (option_map numbered line) ++ pending self.new bs) }
         ensures refused { OnErr result ((bs : List ℕ) → pending self.new bs ≡ pending self.old bs) }
-        ensures bounded { Bounded self.old → Bounded self.new }
     {
         if self.is_over() {
             return Ok(None);
         }
         if byte == b'\n' {
-            return Ok(Some(self.end_line(heap)?));
+            return self.end_line(heap).map(Some);
         }
         if self.begun.len() <= MAX_LINE {
             self.begun.push(byte)?;
@@ -63,7 +66,7 @@ impl Splitter {
         if self.is_over() || self.begun.is_empty() {
             return Ok(None);
         }
-        Ok(Some(self.end_line(heap)?))
+        self.end_line(heap).map(Some)
     }
 
     /// Ends the line that has begun, and gives it. Where memory is wanting nothing changes.

@@ -6,8 +6,9 @@ use Rattle.listing.proofs.Words.{behind}
 use Rattle.listing.proofs.parser.parse_words.Given as goal
 
 abbrev pub invariant-loop-piece : goal.invariant-loop-piece
-invariant-loop-piece l =
-    (goal.iterator-loop-piece).can_next l.piece-iterator ×
-    (goal.iterator-loop-piece).is_finite l.piece-iterator ×
-    (chunks_size l.piece-iterator ≡ 9) ×
-    (behind (vec_items l.words) (words_in (chunks_rest l.piece-iterator)) ≡ words_in l.bytes)
+invariant-loop-piece l = record {
+  can_go_on : (goal.iterator-loop-piece).can_next l.piece-iterator;
+  finite : (goal.iterator-loop-piece).is_finite l.piece-iterator;
+  nine_each : chunks_size l.piece-iterator ≡ 9;
+  said : behind (vec_items l.words) (words_in (chunks_rest l.piece-iterator)) ≡ words_in l.bytes;
+}

@@ -1,11 +1,34 @@
-//! Calls and denied frames in words.
+//! Lines of a listing, calls and denied frames in words.
 use frames::call::Call;
+use frames::decode;
 use frames::fault::{Flaw, FrameFault};
+use listing::line::{Line, Submission};
 use std::fmt;
+
+/// The reply buffer that a caller is taken to have: as long as the longest read.
+const REPLY_WORDS: usize = 16;
+
+/// A line by its number, with the call that it asks for, or why there is none.
+#[derive(Drop)]
+pub(crate) struct Explained<'a>(pub(crate) &'a Line);
+
+impl fmt::Display for Explained<'_> {
+    fn fmt<W: fmt::Write>(&self, f: &mut fmt::Formatter<W>) -> fmt::Result {
+        let Line { number, call } = self.0;
+        let Some(Submission { process, frame }) = call else {
+            return write!(f, "{number} unreadable");
+        };
+        write!(f, "{number} process {process}: ")?;
+        match decode(frame.as_slice(), REPLY_WORDS) {
+            Ok(call) => Described(call).fmt(f),
+            Err(fault) => Denied(fault).fmt(f),
+        }
+    }
+}
 
 /// A call by its name, with its arguments.
 #[derive(Drop)]
-pub(crate) struct Described<'a>(pub(crate) Call<'a>);
+struct Described<'a>(Call<'a>);
 
 impl fmt::Display for Described<'_> {
     fn fmt<W: fmt::Write>(&self, f: &mut fmt::Formatter<W>) -> fmt::Result {
@@ -19,13 +42,11 @@ impl fmt::Display for Described<'_> {
                 security,
                 integrity,
                 grant,
-            } => {
-                write!(f, "create directory d={directory} e={entry} ")?;
-                write!(
-                    f,
-                    "security={security:#x} integrity={integrity:#x} grant={grant}"
-                )
-            }
+            } => write!(
+                f,
+                "create directory d={directory} e={entry} \
+                 security={security:#x} integrity={integrity:#x} grant={grant}"
+            ),
             Call::MakeKnown {
                 directory,
                 entry,
@@ -41,10 +62,7 @@ impl fmt::Display for Described<'_> {
                 segment,
                 first,
                 words,
-            } => {
-                write!(f, "write s={segment} first={first} data=")?;
-                write_words(f, words)
-            }
+            } => write!(f, "write s={segment} first={first} data={}", Words(words)),
             Call::Truncate { segment, keep } => write!(f, "truncate s={segment} keep={keep}"),
             Call::Delete { directory, entry } => write!(f, "delete d={directory} e={entry}"),
             Call::MoveQuota {
@@ -58,28 +76,33 @@ impl fmt::Display for Described<'_> {
     }
 }
 
-/// Writes words as eight digits each, with commas between them.
-fn write_words<W: fmt::Write>(f: &mut fmt::Formatter<W>, words: &[u32]) -> fmt::Result {
-    for (i, word) in words.iter().enumerate() {
-        if i > 0 {
-            write!(f, ",")?;
+/// Words as eight digits each, with commas between them.
+#[derive(Drop)]
+struct Words<'a>(&'a [u32]);
+
+impl fmt::Display for Words<'_> {
+    fn fmt<W: fmt::Write>(&self, f: &mut fmt::Formatter<W>) -> fmt::Result {
+        let [first, rest @ ..] = self.0 else {
+            return Ok(());
+        };
+        write!(f, "{first:08X}")?;
+        for word in rest {
+            write!(f, ",{word:08X}")?;
         }
-        write!(f, "{word:08X}")?;
+        Ok(())
     }
-    Ok(())
 }
 
 /// A frame's denial: number, layer and place, and what is wrong.
 #[derive(Drop)]
-pub(crate) struct Denied(pub(crate) FrameFault);
+struct Denied(FrameFault);
 
 impl fmt::Display for Denied {
     fn fmt<W: fmt::Write>(&self, f: &mut fmt::Formatter<W>) -> fmt::Result {
-        let fault = self.0;
-        let number = fault.flaw.number();
-        let layer = fault.layer();
-        let place = fault.place;
-        let reason = match fault.flaw {
+        let FrameFault { flaw, place } = self.0;
+        let number = flaw.number();
+        let layer = self.0.layer();
+        let reason = match flaw {
             Flaw::NotAdmitted => "the process is not admitted",
             Flaw::NotACall => "no head of a call",
             Flaw::WrongCount => "wrong count of words",

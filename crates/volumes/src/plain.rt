@@ -7,7 +7,7 @@ ghost use Rattle.std.proofs.Common.{rules};
 use crate::{MAX_PAGES, PAGE_WORDS, Volume};
 
 /// A volume over words handed in. A last part page, and the pages past `MAX_PAGES`, stay unused and untouched.
-#[derive(Drop)]
+#[derive(PartialEq, Eq, Debug, Drop)]
 pub struct Plain {
     words: Vec<u32>,
 }
@@ -37,6 +37,24 @@ impl Plain {
         } else {
             None
         }
+    }
+}
+
+/// As `Plain::new`.
+impl From<Vec<u32>> for Plain {
+    ghost from_gives = { λ words volume. volume.words ≡ words };
+
+    fn from(words: Vec<u32>) -> Plain {
+        Plain::new(words)
+    }
+}
+
+/// As `Plain::into_words`.
+impl From<Plain> for Vec<u32> {
+    ghost from_gives = { λ volume words. words ≡ volume.words };
+
+    fn from(volume: Plain) -> Vec<u32> {
+        volume.into_words()
     }
 }
 

@@ -29,6 +29,16 @@ fn sevens(volume: Plain) -> (usize, usize) {
 }
 
 #[test]
+fn converts_both_ways(rt: HostRuntime) -> Result<(), Fail> {
+    let mut volume = Plain::from(vec![in rt.alloc(); 5u32; 20]?);
+    assert_eq!(rt; write_seven(&mut volume, 0, 15), (true, Some(7)));
+    let words: Vec<u32> = volume.into();
+    assert_eq!(rt; words.len(), 20);
+    assert_eq!(rt; [words.get(15), words.get(19)], [Some(&7), Some(&5)]);
+    Ok(())
+}
+
+#[test]
 fn has_no_page(rt: HostRuntime) -> Result<(), Fail> {
     let mut empty = plain(rt.alloc(), 0, 5)?;
     let mut short = plain(rt.alloc(), 15, 5)?;

@@ -24,6 +24,7 @@ const CATEGORY_MASK: u32 = (1 << CATEGORY_BITS) - 1;
 const LEVEL_MASK: u32 = (1 << LEVEL_BITS) - 1;
 
 /// The level of a word.
+#[tactic(auto, using(std::proofs::lemmas::Nat::and_mask))]
 fn level(word: u32) -> u32
     ensures { result ≡ level word }
 {
@@ -31,6 +32,7 @@ fn level(word: u32) -> u32
 }
 
 /// The set of categories of a word.
+#[tactic(auto, using(std::proofs::lemmas::Nat::and_mask))]
 fn categories(word: u32) -> u32
     ensures { result ≡ categories word }
 {
@@ -38,6 +40,7 @@ fn categories(word: u32) -> u32
 }
 
 /// Whether each category of `a` is one of `b`.
+#[tactic(auto, using(crate::specs::Subsets::members, crate::specs::Subsets::from_members))]
 fn subset(a: u32, b: u32) -> bool
     ensures value { result ≡ subset a b }
     ensures members { Decides result (Included a b) }

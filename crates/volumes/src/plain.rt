@@ -67,12 +67,14 @@ impl Volume for Plain {
         (self.words.len() / PAGE_WORDS).min(MAX_PAGES)
     }
 
+    #[tactic(auto, using(crate::proofs::Plains::found))]
     fn read(&self, page: usize, word: usize) -> Option<u32> {
         let index = self.index_of(page, word)?;
         Some(self.words[index])
     }
 
     /// Writes as every volume does, and leaves the unused words as they were.
+    #[tactic(auto, using(crate::proofs::Plains::found))]
     fn write(&mut self, page: usize, word: usize, value: u32) -> bool
         ensures value { result ≡ inside (plain_words self.old) page word }
         ensures words { plain_words self.new ≡ written (plain_words self.old) page word value }

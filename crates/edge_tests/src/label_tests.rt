@@ -1,4 +1,5 @@
 //! Words under part orders, and labels under two of them.
+use label_clients::{both_ways, chained};
 use labels::{Label, LabelOrder, LevelCategory, PartOrder, Reversed, Single, level_edges};
 
 #[test]
@@ -63,4 +64,22 @@ fn asks_for_two_valid_words(rt: HostRuntime) {
 fn compares_labels_by_both_words(rt: HostRuntime) {
     assert_eq!(rt; label(3, 4), label(3, 4));
     assert!(rt; label(3, 4) != label(4, 3));
+}
+
+#[test]
+fn asks_words_and_labels_alike(rt: HostRuntime) {
+    assert!(rt; both_ways(&LevelCategory, 0x10003, 0x10003));
+    assert!(rt; !both_ways(&LevelCategory, 0x10001, 0x10003));
+    assert!(rt; !both_ways(&LevelCategory, 0x80000, 0x80000));
+    assert!(rt; chained(&LevelCategory, 0x00001, 0x10001, 0x10003));
+    assert!(rt; !chained(&LevelCategory, 0x00001, 0x10003, 0x10001));
+    let order = LabelOrder {
+        security: LevelCategory,
+        integrity: Reversed(LevelCategory),
+    };
+    assert!(rt; both_ways(&order, label(1, 2), label(1, 2)));
+    assert!(rt; !both_ways(&order, label(0, 2), label(1, 2)));
+    assert!(rt; !both_ways(&order, label(1, 0x80000), label(1, 0x80000)));
+    assert!(rt; chained(&order, label(0, 3), label(1, 2), label(3, 0)));
+    assert!(rt; !chained(&order, label(0, 3), label(3, 0), label(1, 2)));
 }

@@ -16,16 +16,19 @@ fn write_seven<V: Volume>(volume: &mut V, page: usize, word: usize) -> (bool, Op
 
 /// How many of the words handed back are 7, and how many are not.
 fn sevens(volume: Plain) -> (usize, usize) {
-    let mut sevens = 0usize;
-    let mut others = 0usize;
-    for word in volume.into_words().as_slice() {
-        if *word == 7 {
-            sevens = sevens.saturating_add(1);
-        } else {
-            others = others.saturating_add(1);
-        }
-    }
-    (sevens, others)
+    let words = volume.into_words();
+    let sevens = words.iter().filter(|word| **word == 7).count();
+    (sevens, words.len().saturating_sub(sevens))
+}
+
+#[test]
+fn converts_both_ways(rt: HostRuntime) -> Result<(), Fail> {
+    let mut volume = Plain::from(vec![in rt.alloc(); 5u32; 20]?);
+    assert_eq!(rt; write_seven(&mut volume, 0, 15), (true, Some(7)));
+    let words: Vec<u32> = volume.into();
+    assert_eq!(rt; words.len(), 20);
+    assert_eq!(rt; [words.get(15), words.get(19)], [Some(&7), Some(&5)]);
+    Ok(())
 }
 
 #[test]

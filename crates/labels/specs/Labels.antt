@@ -1,14 +1,15 @@
 -- Labels under two orders of words, one for the security word and one for the integrity word. Assumes nothing.
-use Rattle.std.specs.Prelude.{◌≡◌, Bool, true, not, ◌&&◌, ◌==◌}
+use Rattle.std.specs.Prelude.{ℕ, Bool, ◌&&◌, ◌==◌}
 use Rattle.labels.specs.declared.part_order.PartOrder as PartOrder
 use Rattle.labels.specs.declared.label.Label.{Label}
 use Rattle.labels.specs.declared.label.LabelOrder.{LabelOrder}
-use Rattle.labels.specs.Orders.{Order, Lawful}
+use Rattle.labels.specs.Orders as orders
+use Rattle.labels.specs.Orders.{Order, Lawful, Laws}
 
 -- the orders of a label's two words
 pub record Orders : Type 0 where
-  pub security : Order
-  pub integrity : Order
+  pub security : Order ℕ
+  pub integrity : Order ℕ
 
 -- both words are valid
 abbrev pub valid : Orders → Label → Bool
@@ -18,9 +19,13 @@ valid o l = o.security.valid l.security && o.integrity.valid l.integrity
 abbrev pub below : Orders → Label → Label → Bool
 below o a b = o.security.below a.security b.security && o.integrity.below a.integrity b.integrity
 
+-- the order of labels that these make
+abbrev pub label_order : Orders → Order Label
+label_order o = record { valid = valid o; below = below o }
+
 -- neither label is below the other
 abbrev pub incomparable : Orders → Label → Label → Bool
-incomparable o a b = not (below o a b) && not (below o b a)
+incomparable o = orders.incomparable (label_order o)
 
 -- the labels are equal, word by word
 abbrev pub same_label : Label → Label → Bool
@@ -32,14 +37,10 @@ pub record LawfulOrders (o : Orders) : Type 0 where
   pub integrity : Lawful o.integrity
 
 -- the laws of an order hold of labels too
-pub record LabelLaws (o : Orders) : Type 0 where
-  pub low : (a b : Label) → below o a b ≡ true → valid o a ≡ true
-  pub high : (a b : Label) → below o a b ≡ true → valid o b ≡ true
-  pub reflexive : (a : Label) → valid o a ≡ true → below o a a ≡ true
-  pub transitive : (a b c : Label) → below o a b ≡ true → below o b c ≡ true → below o a c ≡ true
-  pub antisymmetric : (a b : Label) → below o a b ≡ true → below o b a ≡ true → a ≡ b
+abbrev pub LabelLaws : Orders → Type 0
+LabelLaws o = Laws (label_order o)
 
 -- the orders that a `LabelOrder` holds
-module _ {S I : Type 0} (s : PartOrder.Ghosts S) (i : PartOrder.Ghosts I) where
+module _ {S I : Type 0} (s : PartOrder.Ghosts S ℕ) (i : PartOrder.Ghosts I ℕ) where
   abbrev pub orders_of : LabelOrder S I → Orders
   orders_of o = record { security = s.order o.security; integrity = i.order o.integrity }

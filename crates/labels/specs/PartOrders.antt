@@ -31,13 +31,13 @@ abbrev pub dominated : ℕ → ℕ → Bool
 dominated a b = nat_le (level a) (level b) && subset (categories a) (categories b)
 
 -- the order of levels with categories: both words are valid, and the second dominates the first
-abbrev pub level_category : Order
+abbrev pub level_category : Order ℕ
 level_category = record { valid = level_valid; below = λ a b. level_valid a && level_valid b && dominated a b }
 
 -- the same words are valid, and a is below b where b was below a
-abbrev pub reversed : Order → Order
+abbrev pub reversed : {T : Type 0} → Order T → Order T
 reversed o = record { valid = o.valid; below = λ a b. o.below b a }
 
 -- the word 0 is valid, and no other
-abbrev pub single : Order
+abbrev pub single : Order ℕ
 single = record { valid = λ w. (w == 0); below = λ a b. (a == 0) && (b == 0) }

@@ -4,11 +4,11 @@ ghost use Rattle.labels.specs.PartOrders.{level, categories, subset, Included, d
 ghost use Rattle.labels.specs.Levels.{level_lawful};
 ghost use Rattle.std.proofs.Common.{rules};
 
-use crate::part_order::PartOrder;
+use crate::part_order::{PartOrder, WordOrder};
 
 /// Levels and categories: bits 0 to 15 of a word are its categories, bits 16 to 18 its level, and higher bits are zero.
 /// A word is below another where its level is no greater and its categories are a subset.
-#[derive(Clone, Copy)]
+#[derive(Clone, Copy, PartialEq, Eq, Debug)]
 pub struct LevelCategory;
 
 /// Bits 0 to 15: one for each category.
@@ -24,6 +24,7 @@ const CATEGORY_MASK: u32 = (1 << CATEGORY_BITS) - 1;
 const LEVEL_MASK: u32 = (1 << LEVEL_BITS) - 1;
 
 /// The level of a word.
+#[tactic(auto, using(std::proofs::lemmas::Nat::and_mask))]
 fn level(word: u32) -> u32
     ensures { result ≡ level word }
 {
@@ -31,6 +32,7 @@ fn level(word: u32) -> u32
 }
 
 /// The set of categories of a word.
+#[tactic(auto, using(std::proofs::lemmas::Nat::and_mask))]
 fn categories(word: u32) -> u32
     ensures { result ≡ categories word }
 {
@@ -38,6 +40,7 @@ fn categories(word: u32) -> u32
 }
 
 /// Whether each category of `a` is one of `b`.
+#[tactic(auto, using(crate::specs::Subsets::members, crate::specs::Subsets::from_members))]
 fn subset(a: u32, b: u32) -> bool
     ensures value { result ≡ subset a b }
     ensures members { Decides result (Included a b) }
@@ -53,9 +56,9 @@ fn dominated(a: u32, b: u32) -> bool
 }
 
 impl PartOrder for LevelCategory {
-    ghost order = { λ _. level_category };
+    type Item = u32;
 
-    ghost small = { Prim.search rules };
+    ghost order = { λ _. level_category };
 
     ghost low = { Prim.search rules };
 
@@ -67,7 +70,7 @@ impl PartOrder for LevelCategory {
 
     ghost antisymmetric = { Prim.search rules };
 
-    ghost lawful = { λ _. level_lawful };
+    ghost laws = { Prim.search (rules, level_lawful) };
 
     fn valid(&self, word: u32) -> bool {
         word >> (CATEGORY_BITS + LEVEL_BITS) == 0
@@ -76,4 +79,10 @@ impl PartOrder for LevelCategory {
     fn below(&self, a: u32, b: u32) -> bool {
         self.valid(a) && self.valid(b) && dominated(a, b)
     }
+}
+
+impl WordOrder for LevelCategory {
+    ghost small = { Prim.search rules };
+
+    ghost lawful = { λ _. level_lawful };
 }

@@ -11,6 +11,6 @@ mod single;
 pub use edges::level_edges;
 pub use label::{Label, LabelOrder};
 pub use level_category::LevelCategory;
-pub use part_order::PartOrder;
+pub use part_order::{PartOrder, WordOrder};
 pub use reversed::Reversed;
 pub use single::Single;

@@ -1,39 +1,54 @@
-//! What all orders of words have in common.
+//! What all orders of words, and of labels, have in common.
 ghost use Rattle.std.specs.Prelude.{◌≡◌};
-ghost use Rattle.labels.specs.Orders.{Order, Small, LowValid, HighValid, Reflexive, Transitive, Antisymmetric, Lawful};
+ghost use Rattle.labels.specs.Orders.{Order, Small, LowValid, HighValid, Reflexive, Transitive, Antisymmetric, Laws, Lawful, incomparable};
 
-/// The order of one word of a label, the security word or the integrity word. Code over a part order knows no more of
-/// it than these laws.
+/// An order of words, or of labels. Code over a part order knows no more of it than these laws.
 pub trait PartOrder {
-    /// Which words are valid, and which are below which.
-    ghost order: { Self → Order };
+    /// What it orders.
+    type Item: Copy;
 
-    /// Whether a word is valid.
-    fn valid(&self, word: u32) -> bool
-        ensures { result ≡ (order self.now).valid word };
+    /// Which items are valid, and which are below which.
+    ghost order: { Self → Order Self.Item };
 
-    /// Whether `a` is below `b`; each valid word is below itself.
-    fn below(&self, a: u32, b: u32) -> bool
+    /// Whether an item is valid.
+    fn valid(&self, item: Self::Item) -> bool
+        ensures { result ≡ (order self.now).valid item };
+
+    /// Whether `a` is below `b`; each valid item is below itself.
+    fn below(&self, a: Self::Item, b: Self::Item) -> bool
         ensures { result ≡ (order self.now).below a b };
 
-    /// A word of 2^28 or more is never valid.
-    ghost small: { (x : Self) → Small (order x) };
+    /// Whether neither item is below the other.
+    fn incomparable(&self, a: Self::Item, b: Self::Item) -> bool
+        ensures { result ≡ incomparable (order self.now) a b }
+    {
+        !self.below(a, b) && !self.below(b, a)
+    }
 
-    /// An invalid word is below nothing.
+    /// An invalid item is below nothing.
     ghost low: { (x : Self) → LowValid (order x) };
 
-    /// An invalid word has nothing below it.
+    /// An invalid item has nothing below it.
     ghost high: { (x : Self) → HighValid (order x) };
 
-    /// Each valid word is below itself.
+    /// Each valid item is below itself.
     ghost reflexive: { (x : Self) → Reflexive (order x) };
 
     /// Where `a` is below `b` and `b` is below `c`, `a` is below `c`.
     ghost transitive: { (x : Self) → Transitive (order x) };
 
-    /// Two different words are never each below the other.
+    /// Two different items are never each below the other.
     ghost antisymmetric: { (x : Self) → Antisymmetric (order x) };
 
     /// All of these together, for lemmas that take an order.
-    ghost lawful: { (x : Self) → Lawful (order x) };
+    ghost laws: { (x : Self) → Laws (order x) };
+}
+
+/// The order of one word of a label, the security word or the integrity word.
+pub trait WordOrder: PartOrder<Item = u32> {
+    /// A word of 2^28 or more is never valid.
+    ghost small: { (x : Self) → Small (Self.order x) };
+
+    /// All laws of words together, for lemmas that take an order.
+    ghost lawful: { (x : Self) → Lawful (Self.order x) };
 }

@@ -2,17 +2,17 @@
 ghost use Rattle.labels.specs.PartOrders.{reversed};
 ghost use Rattle.std.proofs.Common.{rules};
 
-use crate::part_order::PartOrder;
+use crate::part_order::{PartOrder, WordOrder};
 
-/// The part order that it holds, reversed: the same words are valid, and `a` is below `b` where that order has `b`
+/// The part order that it holds, reversed: the same items are valid, and `a` is below `b` where that order has `b`
 /// below `a`.
-#[derive(Clone, Copy, Drop)]
+#[derive(Clone, Copy, PartialEq, Eq, Debug, Drop)]
 pub struct Reversed<P>(pub P);
 
 impl<P: PartOrder> PartOrder for Reversed<P> {
-    ghost order = { λ x. reversed (P.PartOrder.order x.0) };
+    type Item = P::Item;
 
-    ghost small = { Prim.search rules };
+    ghost order = { λ x. reversed (P.PartOrder.order x.0) };
 
     ghost low = { Prim.search rules };
 
@@ -24,13 +24,19 @@ impl<P: PartOrder> PartOrder for Reversed<P> {
 
     ghost antisymmetric = { Prim.search rules };
 
-    ghost lawful = { Prim.search rules };
+    ghost laws = { Prim.search rules };
 
-    fn valid(&self, word: u32) -> bool {
-        self.0.valid(word)
+    fn valid(&self, item: P::Item) -> bool {
+        self.0.valid(item)
     }
 
-    fn below(&self, a: u32, b: u32) -> bool {
+    fn below(&self, a: P::Item, b: P::Item) -> bool {
         self.0.below(b, a)
     }
+}
+
+impl<P: WordOrder> WordOrder for Reversed<P> {
+    ghost small = { Prim.search rules };
+
+    ghost lawful = { Prim.search rules };
 }

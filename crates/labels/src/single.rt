@@ -2,16 +2,16 @@
 ghost use Rattle.labels.specs.PartOrders.{single};
 ghost use Rattle.std.proofs.Common.{rules};
 
-use crate::part_order::PartOrder;
+use crate::part_order::{PartOrder, WordOrder};
 
 /// The word 0 is valid, and no other.
-#[derive(Clone, Copy)]
+#[derive(Clone, Copy, PartialEq, Eq, Debug)]
 pub struct Single;
 
 impl PartOrder for Single {
-    ghost order = { λ _. single };
+    type Item = u32;
 
-    ghost small = { Prim.search rules };
+    ghost order = { λ _. single };
 
     ghost low = { Prim.search rules };
 
@@ -23,7 +23,7 @@ impl PartOrder for Single {
 
     ghost antisymmetric = { Prim.search rules };
 
-    ghost lawful = { Prim.search rules };
+    ghost laws = { Prim.search rules };
 
     fn valid(&self, word: u32) -> bool {
         word == 0
@@ -32,4 +32,10 @@ impl PartOrder for Single {
     fn below(&self, a: u32, b: u32) -> bool {
         self.valid(a) && self.valid(b)
     }
+}
+
+impl WordOrder for Single {
+    ghost small = { Prim.search rules };
+
+    ghost lawful = { Prim.search rules };
 }

@@ -1,5 +1,7 @@
 -- The values of plain and of joined volumes. Assumes nothing.
-use Rattle.std.specs.Prelude.{ℕ, ◌-◌, ◌*◌, min, cond, ◌&&◌, List, ◌++◌, take, drop, vec_items, nat_le, nat_lt}
+use Rattle.std.specs.Prelude.{ℕ, ◌-◌, ◌*◌, min, cond, if◌then◌else◌, ◌&&◌, List, ◌++◌, take, drop, Some, None, Option, vec_items, nat_le, nat_lt}
+use Rattle.volumes.specs.declared.joined.Half.{Half}
+use Rattle.volumes.specs.declared.joined.Half.TheVariants.{First, Second}
 use Rattle.volumes.specs.declared.joined.Joined.{Joined}
 use Rattle.volumes.specs.declared.plain.Plain.{Plain}
 use Rattle.volumes.specs.declared.volume.Volume as Volume
@@ -40,3 +42,8 @@ joined_words a b v = joined (a.words v.first) (b.words v.second)
 -- the second volume's value after a write to both: it has the pages from `behind` on, up to the cut
 abbrev pub written_behind : ℕ → List ℕ → ℕ → ℕ → ℕ → List ℕ
 written_behind behind ys page word value = cond (nat_le behind page && nat_lt page max_pages) (written ys (page - behind) word value) ys
+
+-- where a page of the whole is, when the first volume has so many: that page of the first, one of the second, or none past the cut
+abbrev pub half_of : ℕ → ℕ → Option Half
+half_of count page =
+    if nat_lt page count then Some (First page) else (if nat_lt page max_pages then Some (Second (page - count)) else None)

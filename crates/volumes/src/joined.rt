@@ -1,16 +1,38 @@
 //! A volume of two volumes.
 ghost use Rattle.std.specs.Prelude.{◌≡◌};
 ghost use Rattle.volumes.specs.Pages.{pages_in, inside, written};
-ghost use Rattle.volumes.specs.Volumes.{joined_words, written_behind};
+ghost use Rattle.volumes.specs.Volumes.{joined_words, half_of, written_behind};
 ghost use Rattle.volumes.specs.Joins.{joined_whole};
 
 use crate::{MAX_PAGES, Volume};
 
 /// The pages of the first volume and then those of the second, cut at `MAX_PAGES`.
-#[derive(Drop)]
+#[derive(PartialEq, Eq, Debug, Drop)]
 pub struct Joined<A, B> {
     pub first: A,
     pub second: B,
+}
+
+/// Which of two joined volumes has a page, and which of its pages that is.
+enum Half {
+    First(usize),
+    Second(usize),
+}
+
+impl<A: Volume, B: Volume> Joined<A, B> {
+    /// Where a page is, if there is one before the cut.
+    fn half_of(&self, page: usize) -> Option<Half>
+        ensures { result ≡ half_of (pages_in (A.Volume.words self.now.first)) page }
+    {
+        let first = self.first.pages();
+        if page < first {
+            Some(Half::First(page))
+        } else if page < MAX_PAGES {
+            Some(Half::Second(page - first))
+        } else {
+            None
+        }
+    }
 }
 
 impl<A: Volume, B: Volume> Volume for Joined<A, B> {
@@ -23,13 +45,9 @@ impl<A: Volume, B: Volume> Volume for Joined<A, B> {
     }
 
     fn read(&self, page: usize, word: usize) -> Option<u32> {
-        let first = self.first.pages();
-        if page < first {
-            self.first.read(page, word)
-        } else if page < MAX_PAGES {
-            self.second.read(page - first, word)
-        } else {
-            None
+        match self.half_of(page)? {
+            Half::First(at) => self.first.read(at, word),
+            Half::Second(at) => self.second.read(at, word),
         }
     }
 
@@ -41,13 +59,10 @@ impl<A: Volume, B: Volume> Volume for Joined<A, B> {
         ensures first { A.Volume.words self.new.first ≡ written (A.Volume.words self.old.first) page word value }
         ensures second { B.Volume.words self.new.second ≡ written_behind (pages_in (A.Volume.words self.old.first)) (B.Volume.words self.old.second) page word value }
     {
-        let first = self.first.pages();
-        if page < first {
-            self.first.write(page, word, value)
-        } else if page < MAX_PAGES {
-            self.second.write(page - first, word, value)
-        } else {
-            false
+        match self.half_of(page) {
+            Some(Half::First(at)) => self.first.write(at, word, value),
+            Some(Half::Second(at)) => self.second.write(at, word, value),
+            None => false,
         }
     }
 }

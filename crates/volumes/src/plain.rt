@@ -7,7 +7,7 @@ ghost use Rattle.std.proofs.Common.{rules};
 use crate::{MAX_PAGES, PAGE_WORDS, Volume};
 
 /// A volume over words handed in. A last part page, and the pages past `MAX_PAGES`, stay unused and untouched.
-#[derive(Drop)]
+#[derive(PartialEq, Eq, Debug, Drop)]
 pub struct Plain {
     words: Vec<u32>,
 }
@@ -40,6 +40,24 @@ impl Plain {
     }
 }
 
+/// As `Plain::new`.
+impl From<Vec<u32>> for Plain {
+    ghost from_gives = { λ words volume. volume.words ≡ words };
+
+    fn from(words: Vec<u32>) -> Plain {
+        Plain::new(words)
+    }
+}
+
+/// As `Plain::into_words`.
+impl From<Plain> for Vec<u32> {
+    ghost from_gives = { λ volume words. words ≡ volume.words };
+
+    fn from(volume: Plain) -> Vec<u32> {
+        volume.into_words()
+    }
+}
+
 impl Volume for Plain {
     ghost words = { plain_words };
 
@@ -49,12 +67,14 @@ impl Volume for Plain {
         (self.words.len() / PAGE_WORDS).min(MAX_PAGES)
     }
 
+    #[tactic(auto, using(crate::proofs::Plains::found))]
     fn read(&self, page: usize, word: usize) -> Option<u32> {
         let index = self.index_of(page, word)?;
         Some(self.words[index])
     }
 
     /// Writes as every volume does, and leaves the unused words as they were.
+    #[tactic(auto, using(crate::proofs::Plains::found))]
     fn write(&mut self, page: usize, word: usize, value: u32) -> bool
         ensures value { result ≡ inside (plain_words self.old) page word }
         ensures words { plain_words self.new ≡ written (plain_words self.old) page word value }

@@ -25,8 +25,8 @@ pub record Step : Type 0 where
   pub response : Response
 
 pub record Run : Type 0 where
-  pub security : Order
-  pub integrity : Order
+  pub security : Order ℕ
+  pub integrity : Order ℕ
   pub root : Label
   pub pages : ℕ
   pub admissions : List Admission

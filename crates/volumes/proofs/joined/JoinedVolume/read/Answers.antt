@@ -1,31 +1,24 @@
 -- What is left to show of `read`.
-use Rattle.std.proofs.Common.{arith}
-use Rattle.volumes.specs.Volumes.{joined}
+use Rattle.std.proofs.Common.{◌∙◌}
 use Rattle.volumes.specs.Insides.{outside_read}
-use Rattle.volumes.specs.Joins.{past_joined, first_page, second_page}
 use Rattle.volumes.specs.Parts.{part_read}
+use Rattle.volumes.proofs.Halves.{first_part, second_part, no_page}
 use Rattle.volumes.proofs.joined.JoinedVolume.read.Goals as goal
 
-pub returns-then-page-first : goal.returns-then-page-first
-returns-then-page-first g c =
+pub returns-in-First : goal.returns-in-First
+returns-in-First g c =
     let v = c.args.self.now in
-    let xs = g.A.Volume.words v.first in
-    let ys = g.B.Volume.words v.second in
-    let page = first_page xs ys (g.met.A.Volume.whole v.first) (g.met.B.Volume.whole v.second) c.args.page (omega arith) in
-    part_read (λ l. joined l ys) xs c.args.page c.args.page page c.args.word _ c.read.ensures
+    let page = first_part _ _ (g.met.A.Volume.whole v.first) (g.met.B.Volume.whole v.second) c.args.page _ (rw c.in-First.is at c.in_ok-at.ensures) in
+    part_read _ _ _ c.args.page page c.args.word _ c.read.ensures
 
-pub returns-then-page-lt-MAX_PAGES : goal.returns-then-page-lt-MAX_PAGES
-returns-then-page-lt-MAX_PAGES g c =
+pub returns-in-Second : goal.returns-in-Second
+returns-in-Second g c =
     let v = c.args.self.now in
-    let xs = g.A.Volume.words v.first in
-    let ys = g.B.Volume.words v.second in
-    let page = second_page xs ys (g.met.A.Volume.whole v.first) (g.met.B.Volume.whole v.second) c.args.page _ c.pages-first.ensures c.if-page-first.false c.if-page-lt-MAX_PAGES.true in
-    part_read (joined xs) ys _ c.args.page page c.args.word _ c.read-then-page-lt-MAX_PAGES.ensures
+    let page = second_part _ _ (g.met.A.Volume.whole v.first) (g.met.B.Volume.whole v.second) c.args.page _ (rw c.in-Second.is at c.in_ok-at.ensures) in
+    part_read _ _ _ c.args.page page c.args.word _ c.read-in-Second.ensures
 
-pub returns-else-page-lt-MAX_PAGES : goal.returns-else-page-lt-MAX_PAGES
-returns-else-page-lt-MAX_PAGES g c =
+pub returns-in_err-at : goal.returns-in_err-at
+returns-in_err-at g c =
     let v = c.args.self.now in
-    let xs = g.A.Volume.words v.first in
-    let ys = g.B.Volume.words v.second in
-    let outside = past_joined xs ys (g.met.A.Volume.whole v.first) (g.met.B.Volume.whole v.second) c.args.page c.args.word c.if-page-lt-MAX_PAGES.false in
-    outside_read (joined xs ys) c.args.page c.args.word outside
+    let outside = no_page _ _ (g.met.A.Volume.whole v.first) (g.met.B.Volume.whole v.second) c.args.page c.in_err-at.ensures c.args.word in
+    c.from_residual.ensures ∙ outside_read _ c.args.page c.args.word outside

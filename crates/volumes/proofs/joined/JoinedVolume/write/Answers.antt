@@ -1,54 +1,50 @@
 -- What is left to show of `write`.
-use Rattle.std.proofs.Common.{sym, arith}
-use Rattle.volumes.specs.Volumes.{joined}
+use Rattle.std.proofs.Common.{refl, sym}
 use Rattle.volumes.specs.Insides.{past_pages, outside_written, written_keeps_pages}
-use Rattle.volumes.specs.Joins.{past_joined, first_page, second_page, kept_before, kept_past, changed_behind}
+use Rattle.volumes.specs.Joins.{kept_before, kept_past, changed_behind}
 use Rattle.volumes.specs.Parts.{part_inside, part_written}
+use Rattle.volumes.proofs.Halves.{first_where, second_where, past_where, first_part, second_part, no_page}
 use Rattle.volumes.proofs.joined.JoinedVolume.write.Goals as goal
 
-pub returns-then-page-first : goal.returns-then-page-first
-returns-then-page-first g c =
+pub returns-in-Some-First : goal.returns-in-Some-First
+returns-in-Some-First g c =
     let v = c.args.self.now in
-    let xs = g.A.Volume.words v.first in
-    let ys = g.B.Volume.words v.second in
-    let page = first_page xs ys (g.met.A.Volume.whole v.first) (g.met.B.Volume.whole v.second) c.args.page (omega arith) in
-    let done = c.write.ensures in
-    let after = part_written (λ l. joined l ys) xs c.args.page c.args.page page c.args.word c.args.value _ done.words in
+    let found = rw c.in-Some-First.field-0-is at c.in-Some-First.ensures in
+    let place = first_where _ c.args.page _ found in
+    let page = first_part _ _ (g.met.A.Volume.whole v.first) (g.met.B.Volume.whole v.second) c.args.page _ found in
+    let words = part_written _ _ _ c.args.page page c.args.word c.args.value _ c.write.ensures.words in
     record {
-      value = part_inside (λ l. joined l ys) xs c.args.page c.args.page page c.args.word _ done.value;
-      words = after;
-      pages = written_keeps_pages (joined xs ys) c.args.page c.args.word c.args.value _ after;
-      first = done.words;
-      second = kept_before _ ys c.args.page c.args.word c.args.value (omega arith);
+      value = part_inside _ _ _ c.args.page page c.args.word _ c.write.ensures.value;
+      words = words;
+      pages = written_keeps_pages _ c.args.page c.args.word c.args.value _ words;
+      first = rw place.1 at c.write.ensures.words;
+      second = kept_before _ _ c.args.page c.args.word c.args.value place.0;
     }
 
-pub returns-then-page-lt-MAX_PAGES : goal.returns-then-page-lt-MAX_PAGES
-returns-then-page-lt-MAX_PAGES g c =
+pub returns-in-Some-Second : goal.returns-in-Some-Second
+returns-in-Some-Second g c =
     let v = c.args.self.now in
-    let xs = g.A.Volume.words v.first in
-    let ys = g.B.Volume.words v.second in
-    let page = second_page xs ys (g.met.A.Volume.whole v.first) (g.met.B.Volume.whole v.second) c.args.page _ c.pages-first.ensures c.if-page-first.false c.if-page-lt-MAX_PAGES.true in
-    let done = c.write-then-page-lt-MAX_PAGES.ensures in
-    let after = part_written (joined xs) ys _ c.args.page page c.args.word c.args.value _ done.words in
+    let found = rw c.in-Some-Second.field-0-is at c.in-Some-Second.ensures in
+    let place = second_where _ c.args.page _ found in
+    let page = second_part _ _ (g.met.A.Volume.whole v.first) (g.met.B.Volume.whole v.second) c.args.page _ found in
+    let words = part_written _ _ _ c.args.page page c.args.word c.args.value _ c.write-in-Some-Second.ensures.words in
     record {
-      value = part_inside (joined xs) ys _ c.args.page page c.args.word _ done.value;
-      words = after;
-      pages = written_keeps_pages (joined xs ys) c.args.page c.args.word c.args.value _ after;
-      first = outside_written xs c.args.page c.args.word c.args.value (past_pages xs c.args.page c.args.word (omega arith));
-      second = changed_behind _ ys c.args.page c.args.word c.args.value _ _ c.pages-first.ensures c.if-page-first.false c.if-page-lt-MAX_PAGES.true done.words;
+      value = part_inside _ _ _ c.args.page page c.args.word _ c.write-in-Some-Second.ensures.value;
+      words = words;
+      pages = written_keeps_pages _ c.args.page c.args.word c.args.value _ words;
+      first = outside_written _ c.args.page c.args.word c.args.value (past_pages _ c.args.page c.args.word place.0);
+      second = changed_behind _ _ c.args.page c.args.word c.args.value _ _ refl place.0 place.1 (rw place.2 at c.write-in-Some-Second.ensures.words);
     }
 
-pub returns-else-page-lt-MAX_PAGES : goal.returns-else-page-lt-MAX_PAGES
-returns-else-page-lt-MAX_PAGES g c =
+pub returns-in-None : goal.returns-in-None
+returns-in-None g c =
     let v = c.args.self.now in
-    let xs = g.A.Volume.words v.first in
-    let ys = g.B.Volume.words v.second in
-    let outside = past_joined xs ys (g.met.A.Volume.whole v.first) (g.met.B.Volume.whole v.second) c.args.page c.args.word c.if-page-lt-MAX_PAGES.false in
-    let after = outside_written (joined xs ys) c.args.page c.args.word c.args.value outside in
+    let outside = no_page _ _ (g.met.A.Volume.whole v.first) (g.met.B.Volume.whole v.second) c.args.page c.in-None.ensures c.args.word in
+    let words = outside_written _ c.args.page c.args.word c.args.value outside in
     record {
       value = sym outside;
-      words = after;
-      pages = written_keeps_pages (joined xs ys) c.args.page c.args.word c.args.value (joined xs ys) after;
-      first = outside_written xs c.args.page c.args.word c.args.value (past_pages xs c.args.page c.args.word (omega arith));
-      second = kept_past _ ys c.args.page c.args.word c.args.value c.if-page-lt-MAX_PAGES.false;
+      words = words;
+      pages = written_keeps_pages _ c.args.page c.args.word c.args.value _ words;
+      first = outside_written _ c.args.page c.args.word c.args.value (past_pages _ c.args.page c.args.word (past_where _ c.args.page c.in-None.ensures).0);
+      second = kept_past _ _ c.args.page c.args.word c.args.value (past_where _ c.args.page c.in-None.ensures).1;
     }

@@ -1,6 +1,6 @@
 //! Words under part orders, and labels under two of them.
 use label_clients::{both_ways, chained};
-use labels::{Label, LabelOrder, LevelCategory, PartOrder, Reversed, Single, level_edges};
+use labels::{Dominance, Label, LabelOrder, LevelCategory, Reversed, Single, level_edges};
 
 #[test]
 fn orders_levels_at_the_edges(rt: HostRuntime) {

@@ -1,6 +1,6 @@
 -- Labels under two orders of words, one for the security word and one for the integrity word. Assumes nothing.
 use Rattle.std.specs.Prelude.{ℕ, Bool, ◌&&◌, ◌==◌}
-use Rattle.labels.specs.declared.part_order.PartOrder as PartOrder
+use Rattle.labels.specs.declared.dominance.Dominance as Dominance
 use Rattle.labels.specs.declared.label.Label.{Label}
 use Rattle.labels.specs.declared.label.LabelOrder.{LabelOrder}
 use Rattle.labels.specs.Orders as orders
@@ -41,6 +41,6 @@ abbrev pub LabelLaws : Orders → Type 0
 LabelLaws o = Laws (label_order o)
 
 -- the orders that a `LabelOrder` holds
-module _ {S I : Type 0} (s : PartOrder.Ghosts S ℕ) (i : PartOrder.Ghosts I ℕ) where
+module _ {S I : Type 0} (s : Dominance.Ghosts S ℕ) (i : Dominance.Ghosts I ℕ) where
   abbrev pub orders_of : LabelOrder S I → Orders
   orders_of o = record { security = s.order o.security; integrity = i.order o.integrity }

@@ -2,8 +2,8 @@
 ghost use Rattle.std.specs.Prelude.{◌≡◌, true};
 ghost use Rattle.labels.specs.Edges.{LevelEdges};
 
+use crate::dominance::Dominance;
 use crate::level_category::LevelCategory;
-use crate::part_order::PartOrder;
 
 /// The edges of levels and categories, as `LevelCategory` answers them too.
 pub fn level_edges() -> bool

@@ -3,6 +3,7 @@ ghost use Rattle.std.specs.Prelude.{◌≡◌};
 ghost use Rattle.std.proofs.Common.{rules};
 ghost use Rattle.labels.specs.Labels.{orders_of, label_order};
 
+use crate::dominance::Dominance;
 use crate::part_order::PartOrder;
 
 /// A security word and an integrity word.
@@ -19,10 +20,10 @@ pub struct LabelOrder<S, I> {
     pub integrity: I,
 }
 
-impl<S: PartOrder<Item = u32>, I: PartOrder<Item = u32>> PartOrder for LabelOrder<S, I> {
+impl<S: PartOrder, I: PartOrder> Dominance for LabelOrder<S, I> {
     type Item = Label;
 
-    ghost order = { λ x. label_order (orders_of S.PartOrder I.PartOrder x) };
+    ghost order = { λ x. label_order (orders_of S.Dominance I.Dominance x) };
 
     ghost low = { Prim.search rules };
 

@@ -4,7 +4,8 @@ ghost use Rattle.labels.specs.PartOrders.{level, categories, subset, Included, d
 ghost use Rattle.labels.specs.Levels.{level_lawful};
 ghost use Rattle.std.proofs.Common.{rules};
 
-use crate::part_order::{PartOrder, WordOrder};
+use crate::dominance::Dominance;
+use crate::part_order::PartOrder;
 
 /// Levels and categories: bits 0 to 15 of a word are its categories, bits 16 to 18 its level, and higher bits are zero.
 /// A word is below another where its level is no greater and its categories are a subset.
@@ -55,7 +56,7 @@ fn dominated(a: u32, b: u32) -> bool
     level(a) <= level(b) && subset(categories(a), categories(b))
 }
 
-impl PartOrder for LevelCategory {
+impl Dominance for LevelCategory {
     type Item = u32;
 
     ghost order = { λ _. level_category };
@@ -81,7 +82,7 @@ impl PartOrder for LevelCategory {
     }
 }
 
-impl WordOrder for LevelCategory {
+impl PartOrder for LevelCategory {
     ghost small = { Prim.search rules };
 
     ghost lawful = { λ _. level_lawful };

@@ -1,54 +1,13 @@
-//! What all orders of words, and of labels, have in common.
-ghost use Rattle.std.specs.Prelude.{◌≡◌};
-ghost use Rattle.labels.specs.Orders.{Order, Small, LowValid, HighValid, Reflexive, Transitive, Antisymmetric, Laws, Lawful, incomparable};
+//! Orders of the words of a label.
+ghost use Rattle.labels.specs.Orders.{Small, Lawful};
 
-/// An order of words, or of labels. Code over a part order knows no more of it than these laws.
-pub trait PartOrder {
-    /// What it orders.
-    type Item: Copy;
-
-    /// Which items are valid, and which are below which.
-    ghost order: { Self → Order Self.Item };
-
-    /// Whether an item is valid.
-    fn valid(&self, item: Self::Item) -> bool
-        ensures { result ≡ (order self.now).valid item };
-
-    /// Whether `a` is below `b`; each valid item is below itself.
-    fn below(&self, a: Self::Item, b: Self::Item) -> bool
-        ensures { result ≡ (order self.now).below a b };
-
-    /// Whether neither item is below the other.
-    fn incomparable(&self, a: Self::Item, b: Self::Item) -> bool
-        ensures { result ≡ incomparable (order self.now) a b }
-    {
-        !self.below(a, b) && !self.below(b, a)
-    }
-
-    /// An invalid item is below nothing.
-    ghost low: { (x : Self) → LowValid (order x) };
-
-    /// An invalid item has nothing below it.
-    ghost high: { (x : Self) → HighValid (order x) };
-
-    /// Each valid item is below itself.
-    ghost reflexive: { (x : Self) → Reflexive (order x) };
-
-    /// Where `a` is below `b` and `b` is below `c`, `a` is below `c`.
-    ghost transitive: { (x : Self) → Transitive (order x) };
-
-    /// Two different items are never each below the other.
-    ghost antisymmetric: { (x : Self) → Antisymmetric (order x) };
-
-    /// All of these together, for lemmas that take an order.
-    ghost laws: { (x : Self) → Laws (order x) };
-}
+use crate::dominance::Dominance;
 
 /// The order of one word of a label, the security word or the integrity word.
-pub trait WordOrder: PartOrder<Item = u32> {
+pub trait PartOrder: Dominance<Item = u32> {
     /// A word of 2^28 or more is never valid.
     ghost small: { (x : Self) → Small (Self.order x) };
 
-    /// All laws of words together, for lemmas that take an order.
+    /// This and the laws of dominance together, for lemmas that take an order.
     ghost lawful: { (x : Self) → Lawful (Self.order x) };
 }

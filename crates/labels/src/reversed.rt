@@ -2,17 +2,18 @@
 ghost use Rattle.labels.specs.PartOrders.{reversed};
 ghost use Rattle.std.proofs.Common.{rules};
 
-use crate::part_order::{PartOrder, WordOrder};
+use crate::dominance::Dominance;
+use crate::part_order::PartOrder;
 
 /// The part order that it holds, reversed: the same items are valid, and `a` is below `b` where that order has `b`
 /// below `a`.
 #[derive(Clone, Copy, PartialEq, Eq, Debug, Drop)]
 pub struct Reversed<P>(pub P);
 
-impl<P: PartOrder> PartOrder for Reversed<P> {
+impl<P: Dominance> Dominance for Reversed<P> {
     type Item = P::Item;
 
-    ghost order = { λ x. reversed (P.PartOrder.order x.0) };
+    ghost order = { λ x. reversed (P.Dominance.order x.0) };
 
     ghost low = { Prim.search rules };
 
@@ -35,7 +36,7 @@ impl<P: PartOrder> PartOrder for Reversed<P> {
     }
 }
 
-impl<P: WordOrder> WordOrder for Reversed<P> {
+impl<P: PartOrder> PartOrder for Reversed<P> {
     ghost small = { Prim.search rules };
 
     ghost lawful = { Prim.search rules };

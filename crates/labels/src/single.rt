@@ -2,13 +2,14 @@
 ghost use Rattle.labels.specs.PartOrders.{single};
 ghost use Rattle.std.proofs.Common.{rules};
 
-use crate::part_order::{PartOrder, WordOrder};
+use crate::dominance::Dominance;
+use crate::part_order::PartOrder;
 
 /// The word 0 is valid, and no other.
 #[derive(Clone, Copy, PartialEq, Eq, Debug)]
 pub struct Single;
 
-impl PartOrder for Single {
+impl Dominance for Single {
     type Item = u32;
 
     ghost order = { λ _. single };
@@ -34,7 +35,7 @@ impl PartOrder for Single {
     }
 }
 
-impl WordOrder for Single {
+impl PartOrder for Single {
     ghost small = { Prim.search rules };
 
     ghost lawful = { Prim.search rules };

@@ -1,7 +1,7 @@
 -- What the steps of the decoder found is what the frame means. Assumes nothing.
 use Rattle.std.proofs.Common.{◌≡◌, ℕ, zero, suc, ◌+◌, List, [], ◌∷◌, ◌++◌, map, length, get_or, take, drop, replicate, Ok, Option, Result, sym, refl, ap, ◌∙◌, subst, ap₂}
 use Rattle.std.proofs.lemmas.List.{drop-drop}
-use Rattle.frames.specs.declared.fault.FrameFault.{FrameFault}
+use Rattle.frames.specs.Faults.{FrameFault}
 use Rattle.frames.specs.declared.table.Parameter.{Parameter}
 use Rattle.frames.specs.Words.{value_of}
 use Rattle.frames.specs.Table.{parameters_of, arity}

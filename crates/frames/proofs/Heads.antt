@@ -2,7 +2,7 @@
 use Rattle.std.proofs.Common.{◌≡◌, ℕ, ◌-◌, ◌≤◌, true, cond, ◌&&◌, eqb, ltb, leb, List, length, get_or, Ok, Err, Result, sym, ap, ◌∙◌}
 use Rattle.std.proofs.lemmas.Bool.{and_parts, eqb-true, leb-true}
 use Rattle.frames.specs.declared.fault.Flaw.TheVariants.{NotACall, WrongCount}
-use Rattle.frames.specs.declared.fault.FrameFault.{FrameFault}
+use Rattle.frames.specs.Faults.{FrameFault}
 use Rattle.frames.specs.Words.{kind_of, number_in, count_in}
 use Rattle.frames.specs.Faults.{blame}
 use Rattle.frames.specs.Table.{arity, data_of, takes_data, takes}

@@ -1,6 +1,6 @@
 -- Faults and results, taken apart. Assumes nothing.
 use Rattle.std.proofs.Common.{◌≡◌, ℕ, Bool, true, false, cond, Some, None, Ok, Err, Option, Result, refl, arith}
-use Rattle.frames.specs.declared.fault.FrameFault.{FrameFault}
+use Rattle.frames.specs.Faults.{FrameFault}
 use Rattle.frames.specs.Decode.{bind, unless, or_else, deny_unless, err_or}
 
 pub never : {A : Type 0} → ◌≡◌ {A = ℕ} 0 1 → A

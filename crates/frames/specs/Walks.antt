@@ -1,6 +1,6 @@
 -- What the walk over a call's arguments answers. Assumes nothing.
 use Rattle.std.specs.Prelude.{◌≡◌, ℕ, ◌-◌, List, ◌++◌, map, length, take, replicate, Some, None, Ok, Err, Result}
-use Rattle.frames.specs.declared.fault.FrameFault.{FrameFault}
+use Rattle.frames.specs.Faults.{FrameFault}
 use Rattle.frames.specs.declared.table.Parameter.{Parameter}
 use Rattle.frames.specs.Words.{value_of}
 use Rattle.frames.specs.Decode.{argument_fault}

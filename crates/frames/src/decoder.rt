@@ -6,7 +6,7 @@ ghost use Rattle.frames.specs.Encode.{encode};
 ghost use Rattle.frames.specs.Ranges.{InRange};
 
 use crate::call::Call;
-use crate::fault::{Flaw, FrameFault};
+use crate::fault::{Flaw, FrameFault, Reason};
 use crate::reader::Reader;
 use crate::table::{CALL_COUNT, MOST_ARGUMENTS, signature_of};
 use crate::word;

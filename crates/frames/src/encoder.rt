@@ -7,7 +7,7 @@ ghost use Rattle.frames.specs.Encode.{argument_words, frame_of, encode, value_fa
 
 use crate::call::Call;
 use crate::decoder::check_end;
-use crate::fault::{Flaw, FrameFault};
+use crate::fault::{Flaw, FrameFault, Reason};
 use crate::table::{MOST_ARGUMENTS, Parameter, signature_of};
 use crate::word;
 

@@ -5,7 +5,7 @@ ghost use Rattle.frames.specs.Decode.{argument};
 ghost use Rattle.frames.specs.Readers.{next, unread, Holds, Moved};
 ghost use Rattle.frames.specs.Walks.{Walked};
 
-use crate::fault::{Flaw, FrameFault};
+use crate::fault::{Flaw, FrameFault, Reason};
 use crate::table::{MOST_ARGUMENTS, Parameter};
 use crate::word;
 

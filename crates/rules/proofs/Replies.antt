@@ -1,7 +1,7 @@
 -- What holds of every response: a denied call changes nothing, each denial has its layer, and words fit their buffer.
 use Rattle.std.proofs.Common.{◌≡◌, ℕ, zero, suc, ◌+◌, ◌≤◌, Bool, true, false, cond, List, [], length, ℤ, pos, negsuc, Some, None, Ok, Err, Option, Result, sym, refl, ap, subst, arith}
 use Rattle.labels.specs.declared.label.Label.{Label}
-use Rattle.frames.specs.declared.fault.FrameFault.{FrameFault}
+use Rattle.frames.specs.Faults.{FrameFault}
 use Rattle.frames.specs.declared.fault.Flaw.{Flaw}
 use Rattle.frames.specs.declared.fault.Flaw.TheVariants.{NotAdmitted, NotACall, WrongCount, WrongKind, OutOfRange}
 use Rattle.frames.specs.Faults.{flaw_number}

@@ -2,7 +2,7 @@
 use Rattle.std.specs.Prelude.{ℕ, List, [], Some, None, Ok, Err, Option, Result}
 use Rattle.labels.specs.declared.label.Label.{Label}
 use Rattle.frames.specs.declared.fault.Flaw.TheVariants.{NotAdmitted}
-use Rattle.frames.specs.declared.fault.FrameFault.{FrameFault}
+use Rattle.frames.specs.Faults.{FrameFault}
 use Rattle.frames.specs.Faults.{flaw_number, frame_layer, blame}
 use Rattle.frames.specs.Requests.{Request}
 use Rattle.frames.specs.Decode.{decode}

@@ -86,7 +86,7 @@ values_back (p ∷ ps) (v ∷ vs) s l =
 
 -- a call has as many argument words as the table says
 arguments_count : (c : Request) → length (argument_words (parameters_of (call_number c)) (arguments_of c)) ≡ arity (call_number c)
-arguments_count c = arguments_length (parameters_of (call_number c)) (arguments_of c) (regular c).same
+arguments_count c = let e = (regular c).same in arguments_length (parameters_of (call_number c)) (arguments_of c) (omega arith)
 
 pub encode_length : (c : Request) → length (encode c) ≡ (1 + arity (call_number c)) + length (data_in c)
 encode_length c =

@@ -20,10 +20,10 @@ pub(crate) fn value(word: u32) -> u32
 }
 
 /// The call that a head names, in the 12 bits below its kind.
-pub(crate) fn call_number(head: u32) -> usize
+pub(crate) fn call_number(head: u32) -> u32
     ensures { result ≡ number_in head }
 {
-    ((head >> 16) & 0xFFF) as usize
+    (head >> 16) & 0xFFF
 }
 
 /// How many words follow a head, as its low 16 bits say.

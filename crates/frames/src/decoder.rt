@@ -105,17 +105,11 @@ pub(crate) fn check_end(call: Call<'_>) -> Result<(), FrameFault>
     ensures { result ≡ unless (past_end (request call.entry)) tt }
 {
     match call {
-        Call::Read { first, count, .. } => {
-            if first as usize + count as usize > SEGMENT_WORDS {
-                return Err(Flaw::OutOfRange.at(3));
-            }
-            Ok(())
+        Call::Read { first, count, .. } if first as usize + count as usize > SEGMENT_WORDS => {
+            Err(Flaw::OutOfRange.at(3))
         }
-        Call::Write { first, words, .. } => {
-            if words.len().saturating_add(first as usize) > SEGMENT_WORDS {
-                return Err(Flaw::OutOfRange.at(2));
-            }
-            Ok(())
+        Call::Write { first, words, .. } if first as usize + words.len() > SEGMENT_WORDS => {
+            Err(Flaw::OutOfRange.at(2))
         }
         _ => Ok(()),
     }

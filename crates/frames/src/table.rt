@@ -64,7 +64,7 @@ impl Parameter {
             Kind::Amount if value >= 1 << 27 => (1u32 << 28).saturating_sub(value),
             _ => value,
         };
-        self.least <= size && size <= self.most
+        (self.least..=self.most).contains(&size)
     }
 }
 
@@ -83,7 +83,7 @@ impl Signature {
         if self.payload == 0 {
             words == 0
         } else {
-            1 <= words && words <= self.payload
+            (1..=self.payload).contains(&words)
         }
     }
 

@@ -3,9 +3,9 @@ ghost use Rattle.std.specs.Prelude.{◌≡◌, ℕ, ◌+◌, ◌^◌, ◌<◌, �
 ghost use Rattle.std.specs.List.{zip};
 ghost use Rattle.frames.specs.Operations.{operation_number};
 ghost use Rattle.frames.specs.Table.{within, parameters_of, arity};
-ghost use Rattle.frames.specs.Requests.{request, call_number, arguments_of, data_in, reply_words};
+ghost use Rattle.frames.specs.Requests.{request, reply_words};
 ghost use Rattle.frames.specs.Decode.{unless, decode};
-ghost use Rattle.frames.specs.Walks.{padded};
+ghost use Rattle.frames.specs.Walks.{TakenApart};
 ghost use Rattle.frames.specs.Encode.{argument_words, frame_of, encode, value_fault, refusal, put, buffer_after};
 
 use crate::call::Call;
@@ -41,26 +41,10 @@ struct Parts<'a> {
     words: &'a [u32],
 }
 
-impl<'a> Parts<'a> {
-    /// The parts of a call that takes no data words.
-    fn without_data(operation: Operation, values: [u32; MOST_ARGUMENTS]) -> Parts<'a>
-        ensures operation { result.operation ≡ operation }
-        ensures values { result.values ≡ values }
-        ensures words { result.words.now ≡ [] }
-    {
-        Parts {
-            operation,
-            values,
-            words: &[],
-        }
-    }
+impl<'a> From<Call<'a>> for Parts<'a> {
+    ghost from_gives = { λ c p. TakenApart (operation_number p.operation) p.values p.words.now (request c) };
 
-    /// Takes a call apart.
-    fn of(call: Call<'a>) -> Parts<'a>
-        ensures number { operation_number result.operation ≡ call_number (request call.entry) }
-        ensures values { result.values ≡ padded (arguments_of (request call.entry)) }
-        ensures words { result.words.now ≡ data_in (request call.entry) }
-    {
+    fn from(call: Call<'a>) -> Parts<'a> {
         match call {
             Call::CreateSegment { directory, entry } => Parts::without_data(
                 Operation::CreateSegment,
@@ -125,6 +109,21 @@ impl<'a> Parts<'a> {
             ),
         }
     }
+}
+
+impl<'a> Parts<'a> {
+    /// The parts of a call that takes no data words.
+    fn without_data(operation: Operation, values: [u32; MOST_ARGUMENTS]) -> Parts<'a>
+        ensures operation { result.operation ≡ operation }
+        ensures values { result.values ≡ values }
+        ensures words { result.words.now ≡ [] }
+    {
+        Parts {
+            operation,
+            values,
+            words: &[],
+        }
+    }
 
     /// How many words the frame has.
     fn frame_length(&self) -> usize
@@ -178,7 +177,7 @@ pub fn encode(call: Call<'_>, buffer: &mut [u32]) -> Result<usize, FrameFault>
     ensures buffer { buffer.new ≡ buffer_after (refusal (request call.entry) (length buffer.old)) (encode (request call.entry)) buffer.old }
     ensures reads_back { IfOk result (λ n. (room : ℕ) → reply_words (request call.entry) ≤ room → decode (take n buffer.new) room ≡ Ok (request call.entry)) }
 {
-    let parts = Parts::of(call);
+    let parts = Parts::from(call);
     if !parts.operation.signature().takes_data(parts.words.len()) {
         return Err(Flaw::WrongCount.at(0));
     }

@@ -13,14 +13,25 @@ use crate::table::{Kind, MOST_ARGUMENTS, Parameter};
 use crate::word;
 
 /// The value in a word, and its kind if there is such a kind.
-#[derive(Clone, Copy)]
+#[derive(Clone, Copy, PartialEq, Eq, Debug)]
 pub(crate) struct Argument {
     pub(crate) kind: Result<Kind, Flaw>,
     pub(crate) value: u32,
 }
 
+impl From<u32> for Argument {
+    ghost from_gives = { λ w a. (map_ok kind_code a.kind ≡ numbered 6 WrongKind (kind_of w)) × (a.value ≡ value_of w) };
+
+    fn from(word: u32) -> Argument {
+        Argument {
+            kind: Kind::try_from(word::kind(word)),
+            value: word::value(word),
+        }
+    }
+}
+
 /// A frame that is lent, and the index of the word to read next.
-#[derive(Drop)]
+#[derive(Drop, Debug)]
 pub(crate) struct Reader<'a> {
     frame: &'a [u32],
     at: usize,
@@ -44,10 +55,7 @@ impl<'a> Reader<'a> {
     {
         let word = self.frame[self.at];
         self.at += 1;
-        Argument {
-            kind: Kind::try_from(word::kind(word)),
-            value: word::value(word),
-        }
+        Argument::from(word)
     }
 
     /// The next argument's value, where it is of the kind and within the bounds that the call takes there.

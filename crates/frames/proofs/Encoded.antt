@@ -8,7 +8,7 @@ use Rattle.frames.specs.Words.{head_of}
 use Rattle.frames.specs.Table.{parameters_of, arity, data_of, takes_data}
 use Rattle.frames.specs.Requests.{Request, call_number, arguments_of, data_in, reply_words}
 use Rattle.frames.specs.Decode.{unless, or_else, deny_unless, past_end, decode}
-use Rattle.frames.specs.Walks.{padded}
+use Rattle.frames.specs.Walks.{TakenApart}
 use Rattle.frames.specs.Encode.{frame_of, encode, value_fault, refusal, put, buffer_after}
 use Rattle.frames.proofs.Outcomes.{none_from_ok, some_from_err}
 use Rattle.frames.proofs.Ranges.{Passes, not_refused}
@@ -44,22 +44,22 @@ refused c buffer r x e d =
     }
 
 -- the parts of a call c: its number n, the values in the order of the frame, and the data words
-module _ (c : Request) (n : ℕ) (vs ds : List ℕ) (number : n ≡ call_number c) (values : vs ≡ padded (arguments_of c)) (words : ds ≡ data_in c) where
+module _ {c : Request} {n : ℕ} {vs ds : List ℕ} (taken : TakenApart n vs ds c) where
   same_count : takes_data (data_of n) (length ds) ≡ takes_data (data_of (call_number c)) (length (data_in c))
-  same_count = ap₂ (λ (k : ℕ) (xs : List ℕ). takes_data (data_of k) (length xs)) number words
+  same_count = ap₂ (λ (k : ℕ) (xs : List ℕ). takes_data (data_of k) (length xs)) taken.number taken.words
 
   same_fault : value_fault 1 (parameters_of n) vs ≡ value_fault 1 (parameters_of (call_number c)) (arguments_of c)
   same_fault =
-      ap₂ (λ (k : ℕ) (xs : List ℕ). value_fault 1 (parameters_of k) xs) number values
+      ap₂ (λ (k : ℕ) (xs : List ℕ). value_fault 1 (parameters_of k) xs) taken.number taken.values
       ∙ fault_before 1 (parameters_of (call_number c)) (arguments_of c) _ (regular c).same
 
   same_length : (1 + arity n) + length ds ≡ length (encode c)
-  same_length = ap₂ (λ (k : ℕ) (xs : List ℕ). (1 + arity k) + length xs) number words ∙ sym (encode_length c)
+  same_length = ap₂ (λ (k : ℕ) (xs : List ℕ). (1 + arity k) + length xs) taken.number taken.words ∙ sym (encode_length c)
 
   same_frame : frame_of n (parameters_of n) vs ds ≡ encode c
   same_frame =
-      ap₂ (λ (k : ℕ) (xs : List ℕ). frame_of k (parameters_of k) xs ds) number values
-      ∙ ap₂ (λ (xs ys : List ℕ). head_of (call_number c) (arity (call_number c) + length ys) ∷ (xs ++ ys)) (words_before (parameters_of (call_number c)) (arguments_of c) _ (regular c).same) words
+      ap₂ (λ (k : ℕ) (xs : List ℕ). frame_of k (parameters_of k) xs ds) taken.number taken.values
+      ∙ ap₂ (λ (xs ys : List ℕ). head_of (call_number c) (arity (call_number c) + length ys) ∷ (xs ++ ys)) (words_before (parameters_of (call_number c)) (arguments_of c) _ (regular c).same) taken.words
 
   -- a value out of its range is the fault, where the data words are as they should be
   pub denied_value : (room : ℕ) (x : FrameFault) → takes_data (data_of n) (length ds) ≡ true → Err x ≡ unless {A = Unit {0}} (value_fault 1 (parameters_of n) vs) tt → refusal c room ≡ Some x

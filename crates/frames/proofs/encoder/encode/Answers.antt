@@ -1,7 +1,6 @@
 -- What is left to show of `encode`.
 use Rattle.std.proofs.Common.{length, Err, ap, ◌∙◌, arith}
 use Rattle.std.proofs.lemmas.Result.{err_from_is_err_and, IfOk-from_err}
-use Rattle.frames.specs.Operations.{operation_number}
 use Rattle.frames.specs.Requests.{request}
 use Rattle.frames.proofs.Encoded.{refused, denied_value, denied_end, encoded}
 use Rattle.frames.proofs.encoder.encode.Goals as goal
@@ -10,9 +9,7 @@ pub returns-in_err-check_values : goal.returns-in_err-check_values
 returns-in_err-check_values c =
     let p = err_from_is_err_and c.from_residual.result c.from_residual.ensures.1 in
     let r = refused (request c.args.call) c.args.buffer.now c.from_residual.result _ (p.1 ∙ ap Err p.2)
-    (denied_value (request c.args.call) (operation_number c.from-parts.result.operation) c.from-parts.result.values c.from-parts.result.words.now
-    c.from-parts.ensures.number c.from-parts.ensures.values c.from-parts.ensures.words
-    (length c.args.buffer.now) c.in_err-check_values.field-0.0 (cc) c.in_err-check_values.ensures) in
+    (denied_value c.from-parts.ensures (length c.args.buffer.now) c.in_err-check_values.field-0.0 (cc) c.in_err-check_values.ensures) in
     record { value = r.value; buffer = r.same; reads_back = IfOk-from_err c.from_residual.result _ c.from_residual.ensures.0 }
 
 pub returns-in_err-check_end : goal.returns-in_err-check_end
@@ -20,14 +17,10 @@ returns-in_err-check_end c =
     let f = c.from_residual-in_err-check_end in
     let p = err_from_is_err_and f.result f.ensures.1 in
     let r = refused (request c.args.call) c.args.buffer.now f.result _ (p.1 ∙ ap Err p.2)
-    (denied_end (request c.args.call) (operation_number c.from-parts.result.operation) c.from-parts.result.values c.from-parts.result.words.now
-    c.from-parts.ensures.number c.from-parts.ensures.values c.from-parts.ensures.words
-    (length c.args.buffer.now) c.in_err-check_end.field-0.0 (cc) c.in_ok-check_values.ensures c.in_err-check_end.ensures) in
+    (denied_end c.from-parts.ensures (length c.args.buffer.now) c.in_err-check_end.field-0.0 (cc) c.in_ok-check_values.ensures c.in_err-check_end.ensures) in
     record { value = r.value; buffer = r.same; reads_back = IfOk-from_err f.result _ f.ensures.0 }
 
 pub returns : goal.returns
 returns c =
-    let e = encoded (request c.args.call) (operation_number c.from-parts.result.operation) c.from-parts.result.values c.from-parts.result.words.now
-    c.from-parts.ensures.number c.from-parts.ensures.values c.from-parts.ensures.words
-    c.args.buffer.now c.put_frame.new.buffer c.frame_length-length.result (cc) c.in_ok-check_values.ensures c.in_ok-check_end.ensures c.frame_length-length.ensures (omega arith) c.put_frame.ensures in
+    let e = encoded c.from-parts.ensures c.args.buffer.now c.put_frame.new.buffer c.frame_length-length.result (cc) c.in_ok-check_values.ensures c.in_ok-check_end.ensures c.frame_length-length.ensures (omega arith) c.put_frame.ensures in
     record { value = e.value; buffer = e.buffer; reads_back = e.reads_back }

@@ -1,6 +1,6 @@
 //! Frames, written and read.
 use frames::call::Call;
-use frames::fault::{Flaw, FrameFault};
+use frames::fault::{Flaw, FrameFault, Reason};
 use frames::{decode, encode};
 
 /// A move of one record back out of the directory at place 3.

@@ -1,6 +1,6 @@
 //! Calls and denied frames in words.
 use frames::call::Call;
-use frames::fault::{Flaw, FrameFault};
+use frames::fault::{Flaw, FrameFault, Reason};
 use std::fmt;
 
 /// A call by its name, with its arguments.
@@ -76,10 +76,10 @@ pub(crate) struct Denied(pub(crate) FrameFault);
 impl fmt::Display for Denied {
     fn fmt<W: fmt::Write>(&self, f: &mut fmt::Formatter<W>) -> fmt::Result {
         let fault = self.0;
-        let number = fault.flaw.number();
+        let number = fault.reason.number();
         let layer = fault.layer();
         let place = fault.place;
-        let reason = match fault.flaw {
+        let reason = match fault.reason {
             Flaw::NotAdmitted => "the process is not admitted",
             Flaw::NotACall => "no head of a call",
             Flaw::WrongCount => "wrong count of words",

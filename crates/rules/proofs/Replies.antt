@@ -57,12 +57,12 @@ denial_layer TooFewLeft = refl
 denial_layer ProcessesFull = refl
 
 judged_layer : (v : Verdict) → (judged v).reply.layer ≡ layer_of (judged v).reply.answer
-judged_layer (Err f) = denial_layer f.denial
+judged_layer (Err f) = denial_layer f.reason
 judged_layer (Ok y) = refl
 
 layered : (s : Setup) (w : Store) (m : Option Label) (p : ℕ) (d : Result Request FrameFault) → (response_to s w m p d).reply.layer ≡ layer_of (response_to s w m p d).reply.answer
 layered s w None p d = refl
-layered s w (Some me) p (Err f) = flaw_layer f.flaw
+layered s w (Some me) p (Err f) = flaw_layer f.reason
 layered s w (Some me) p (Ok r) = judged_layer (verdict s w me p r)
 
 -- Values and words

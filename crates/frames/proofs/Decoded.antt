@@ -1,6 +1,7 @@
 -- What the steps of the decoder found is what the frame means. Assumes nothing.
-use Rattle.std.proofs.Common.{◌≡◌, ℕ, zero, suc, ◌+◌, List, [], ◌∷◌, ◌++◌, map, length, get_or, take, drop, replicate, Ok, Option, Result, sym, refl, ap, ◌∙◌, subst, ap₂}
+use Rattle.std.proofs.Common.{◌≡◌, ℕ, ◌+◌, List, ◌++◌, map, length, get_or, take, drop, replicate, Ok, Option, Result, sym, ap, ◌∙◌, subst, ap₂, arith}
 use Rattle.std.proofs.lemmas.List.{drop-drop}
+use Rattle.std.proofs.lemmas.Grind.{common_steps}
 use Rattle.frames.specs.Faults.{FrameFault}
 use Rattle.frames.specs.declared.table.Parameter.{Parameter}
 use Rattle.frames.specs.Words.{value_of}
@@ -11,15 +12,8 @@ use Rattle.frames.specs.Walks.{Walked}
 use Rattle.frames.proofs.Outcomes.{none_from_ok}
 
 -- zeros behind a list change none of its values
-zeros : (k i : ℕ) → ◌≡◌ {A = ℕ} (get_or (replicate k 0) i 0) 0
-zeros zero i = refl
-zeros (suc k) zero = refl
-zeros (suc k) (suc i) = zeros k i
-
 behind_zeros : (xs : List ℕ) (k i : ℕ) → get_or (xs ++ replicate k 0) i 0 ≡ get_or xs i 0
-behind_zeros [] k i = zeros k i
-behind_zeros (x ∷ xs) k zero = refl
-behind_zeros (x ∷ xs) k (suc i) = behind_zeros xs k i
+behind_zeros xs k i = grind (arith, common_steps)
 
 -- what the decoder knows when it has read the words of a call q of number n: the reader began at place a of the frame b,
 -- and is now at place at of the frame g

@@ -11,7 +11,7 @@ use Rattle.frames.specs.Requests.{Request, call_number, arguments_of, data_in, r
 use Rattle.frames.specs.Decode.{unless, argument, argument_fault, call_in, request_in, spelled, or_else, past_end, past_room, decode}
 use Rattle.frames.specs.Encode.{argument_words, frame_of, encode, value_fault}
 use Rattle.frames.proofs.Words.{word_again, head_again}
-use Rattle.frames.proofs.Outcomes.{never, bind_ok, unless_ok, cond_ok, or_else_none, err_or_none, test_passed}
+use Rattle.frames.proofs.Outcomes.{bind_ok, unless_ok, cond_ok, or_else_none, err_or_none, test_passed}
 use Rattle.frames.proofs.Heads.{number_is, number_low, number_high, kind_is, count_is, arguments_there, data_taken}
 use Rattle.frames.specs.Ranges.{InRange}
 use Rattle.frames.proofs.Ranges.{Passes, Within, no_fault, in_range}
@@ -89,7 +89,7 @@ pub record Decoded (f : List ℕ) (room : ℕ) (c : Request) : Type 0 where
   pub fits : reply_words c ≤ room
 
 pub decoded : (f : List ℕ) (room : ℕ) (c : Request) → decode f room ≡ Ok c → Decoded f room c
-decoded [] room c e = never cc
+decoded [] room c e = cc
 decoded (h ∷ ws) room c e =
     let d = bind_ok (spelled (h ∷ ws)) (λ q. unless (or_else (past_end q) (past_room q room)) q) c e in
     let b = bind_ok (call_in (h ∷ ws)) (λ n. unless (argument_fault 1 (parameters_of n) ws) (request_in n ws)) d.0 d.1 in

@@ -33,8 +33,8 @@ fn first_outside(parameters: &[Parameter], values: &[u32]) -> Option<usize>
         .position(|(parameter, value)| !parameter.admits(*value))
 }
 
-/// A call taken apart: its values from index 0 on with zeros behind them, and its data words.
-#[derive(Clone, Copy, PartialEq, Eq, Debug)]
+/// A call taken apart: which it is, its values from index 0 on with zeros behind them, and its data words.
+#[derive(Clone, Copy)]
 struct Parts<'a> {
     operation: Operation,
     values: [u32; MOST_ARGUMENTS],

@@ -12,7 +12,7 @@ use crate::fault::{Flaw, FrameFault, Reason};
 use crate::table::{Kind, MOST_ARGUMENTS, Parameter};
 use crate::word;
 
-/// The value in a word, and its kind if there is such a kind.
+/// The value in a word, and its kind, or the flaw of a word of no such kind.
 #[derive(Clone, Copy, PartialEq, Eq, Debug)]
 pub(crate) struct Argument {
     pub(crate) kind: Result<Kind, Flaw>,
@@ -31,7 +31,7 @@ impl From<u32> for Argument {
 }
 
 /// A frame that is lent, and the index of the word to read next.
-#[derive(Drop, Debug)]
+#[derive(Drop)]
 pub(crate) struct Reader<'a> {
     frame: &'a [u32],
     at: usize,

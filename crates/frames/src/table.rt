@@ -160,7 +160,7 @@ const AMOUNT: Parameter = Parameter {
 pub(crate) const MOST_ARGUMENTS: usize = 5;
 
 /// How many calls there are; their numbers begin at 1.
-pub(crate) const CALL_COUNT: usize = 11;
+const CALL_COUNT: usize = 11;
 
 const CALLS: [Signature; CALL_COUNT] = [
     // 1 create segment

@@ -1,5 +1,5 @@
 -- The arguments of a call that is written: their words, and the test of their values, one after the other. Assumes nothing.
-use Rattle.std.proofs.Common.{◌≡◌, ℕ, suc, ◌+◌, ◌<◌, ◌≤◌, ◌++◌, Bool, true, false, not, cond, Some, List, [], ◌∷◌, length, sym, refl, ap, ◌∙◌, ap₂, arith, lit≤, ◌⊎◌, inl, inr, set}
+use Rattle.std.proofs.Common.{◌≡◌, ℕ, suc, ◌+◌, ◌≤◌, ◌++◌, Bool, true, false, not, cond, Some, List, [], ◌∷◌, length, sym, refl, ap, ◌∙◌, ap₂, arith, lit≤, ◌⊎◌, inl, inr, set}
 use Rattle.std.proofs.lemmas.Iterator.Adapters.{position_from-zero}
 use Rattle.std.specs.Option.{option_map}
 use Rattle.std.specs.List.{position_from, position, zip}
@@ -13,7 +13,7 @@ use Rattle.frames.specs.Faults.{blame}
 use Rattle.frames.specs.Table.{kind_code, within, parameters_of, arity}
 use Rattle.frames.specs.Decode.{or_else, deny_unless}
 use Rattle.frames.specs.Encode.{argument_words, frame_of, value_fault, put}
-use Rattle.frames.proofs.Buffers.{put_none, put_next, filled}
+use Rattle.frames.proofs.Buffers.{put_none, filled}
 
 -- a word for each parameter that has a value
 pub arguments_length : (ps : List Parameter) (vs : List ℕ) → length ps ≤ length vs → length (argument_words ps vs) ≡ length ps
@@ -32,15 +32,6 @@ fault_before k [] vs ws e = refl
 fault_before k (p ∷ ps) [] ws e = let z : ⊥ = omega arith in absurd z
 fault_before k (p ∷ ps) (v ∷ vs) ws e =
     ap (or_else (deny_unless (within p v) (blame OutOfRange k))) (fault_before (suc k) ps vs ws (omega arith))
-
--- one argument is put at its place, and those behind it are left
-pub argument_put : (i k j x v : ℕ) (p : Parameter) (ps qs : List Parameter) (vs us buffer : List ℕ) → ps ≡ p ∷ qs → vs ≡ v ∷ us → i ≡ k → j ≡ k + 1 → x ≡ word_of (kind_code p.kind) v → 1 + k < length buffer → put (1 + j) (argument_words qs us) (set buffer (1 + i) x) ≡ put (1 + k) (argument_words ps vs) buffer
-argument_put i k j x v p ps qs vs us buffer a b here next is room =
-    let n : 1 + j ≡ (1 + k) + 1 = omega arith in
-    ap₂ (λ (m l : ℕ). put m (argument_words qs us) (set buffer (1 + l) x)) n here
-    ∙ ap (λ (y : ℕ). put ((1 + k) + 1) (argument_words qs us) (set buffer (1 + k) y)) is
-    ∙ put_next (1 + k) (word_of (kind_code p.kind) v) (argument_words qs us) buffer room
-    ∙ ap₂ (λ (rs : List Parameter) (ws : List ℕ). put (1 + k) (argument_words rs ws) buffer) (sym a) (sym b)
 
 -- where no argument is left
 pub none_put : (k : ℕ) (ps : List Parameter) (vs buffer : List ℕ) → (length ps ≡ 0) ⊎ (length vs ≡ 0) → put k (argument_words ps vs) buffer ≡ buffer

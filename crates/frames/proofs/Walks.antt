@@ -1,6 +1,6 @@
 -- The walk over a call's arguments, one word at a time. Assumes nothing.
-use Rattle.std.proofs.Common.{◌≡◌, ℕ, suc, ◌+◌, ◌-◌, ◌<◌, ◌≤◌, Bool, true, false, cond, eqb, List, [], ◌∷◌, ◌++◌, map, length, get_or, take, drop, set, replicate, Some, None, Ok, Err, Option, Result, sym, ap, ◌∙◌, subst, ap₂, arith}
-use Rattle.std.proofs.lemmas.List.{append_assoc, drop_more, drop_all, length-drop, length-map, length_push, length-take-le, map_more, set_at, get_or-drop}
+use Rattle.std.proofs.Common.{◌≡◌, ℕ, suc, ◌+◌, ◌-◌, ◌<◌, ◌≤◌, Bool, true, false, cond, eqb, List, [], ◌∷◌, ◌++◌, map, length, get_or, take, drop, set, replicate, Ok, Err, Option, sym, ap, ◌∙◌, ap₂, arith}
+use Rattle.std.proofs.lemmas.List.{append_assoc, drop_more, length-drop, length-map, length_push, length-take-le, map_more, set_at, get_or-drop}
 use Rattle.frames.specs.declared.fault.Flaw.TheVariants.{WrongKind, OutOfRange}
 use Rattle.frames.specs.Faults.{FrameFault}
 use Rattle.frames.specs.declared.table.Parameter.{Parameter}
@@ -8,7 +8,7 @@ use Rattle.frames.specs.Words.{kind_of, value_of}
 use Rattle.frames.specs.Faults.{blame}
 use Rattle.frames.specs.Table.{kind_code, within}
 use Rattle.frames.specs.Decode.{argument, err_or, argument_fault}
-use Rattle.frames.specs.Walks.{padded, Walked}
+use Rattle.frames.specs.Walks.{padded}
 
 -- one word more, from place a on
 more : (a i : ℕ) (ps : List Parameter) (f : List ℕ) (d : Parameter) → i < length ps → a + i < length f → argument_fault (a + i) (drop i ps) (drop (a + i) f) ≡ err_or (argument (a + i) (get_or ps i d) (get_or f (a + i) 0)) (argument_fault (a + (i + 1)) (drop (i + 1) ps) (drop (a + (i + 1)) f))
@@ -33,16 +33,6 @@ module _ (a i at : ℕ) (ps : List Parameter) (f g : List ℕ) (d : Parameter) (
   pub goes_on : (v : ℕ) → Ok v ≡ argument at (get_or ps i d) (get_or g at 0) → argument_fault (a + (i + 1)) (drop (i + 1) ps) (drop (a + (i + 1)) f) ≡ whole
   unfolding rest
   goes_on v e = sym (turned ∙ ap (λ r. err_or r rest) (sym e))
-
-  pub stops : (x : FrameFault) → Err x ≡ argument at (get_or ps i d) (get_or g at 0) → whole ≡ Some x
-  stops x e = turned ∙ ap (λ r. err_or r rest) (sym e)
-
--- at the end no argument is left
-pub walked_all : (a i : ℕ) (ps : List Parameter) (f : List ℕ) → i ≡ length ps → argument_fault (a + i) (drop i ps) (drop (a + i) f) ≡ None
-walked_all a i ps f e = ap (λ (qs : List Parameter). argument_fault (a + i) qs (drop (a + i) f)) (drop_all i ps (omega arith))
-
-pub walked_err : (place : ℕ) (ps : List Parameter) (ws : List ℕ) (r : Result (List ℕ) FrameFault) (x : FrameFault) → r ≡ Err x → argument_fault place ps ws ≡ Some x → Walked place ps ws r
-walked_err place ps ws r x h k = subst (λ (y : Result (List ℕ) FrameFault). Walked place ps ws y) (sym h) k
 
 ok_is : (b c : Bool) (x v : ℕ) (y z : FrameFault) → Ok v ≡ cond b (cond c (Ok x) (Err y)) (Err z) → v ≡ x
 ok_is true true x v y z e = cc

@@ -8,9 +8,9 @@ use Rattle.frames.specs.declared.table.Parameter.{Parameter}
 use Rattle.frames.specs.declared.operation.Operation.{Operation}
 use Rattle.frames.specs.declared.operation.Operation.TheVariants.{CreateSegment, CreateDirectory, MakeKnown, Terminate, Read, Write, Truncate, Delete, MoveQuota, Status, Quota}
 use Rattle.frames.specs.Operations.{operation_number}
-use Rattle.frames.specs.Words.{word_of, head_of}
+use Rattle.frames.specs.Words.{head_of}
 use Rattle.frames.specs.Faults.{blame}
-use Rattle.frames.specs.Table.{kind_code, within, parameters_of, arity}
+use Rattle.frames.specs.Table.{within, parameters_of, arity}
 use Rattle.frames.specs.Decode.{or_else, deny_unless}
 use Rattle.frames.specs.Encode.{argument_words, frame_of, value_fault, put}
 use Rattle.frames.proofs.Buffers.{put_none, filled}
@@ -20,18 +20,6 @@ pub arguments_length : (ps : List Parameter) (vs : List ℕ) → length ps ≤ l
 arguments_length [] vs l = refl
 arguments_length (p ∷ ps) [] l = let z : ⊥ = omega arith in absurd z
 arguments_length (p ∷ ps) (v ∷ vs) l = ap suc (arguments_length ps vs (omega arith))
-
--- values behind those of the parameters are not looked at
-pub words_before : (ps : List Parameter) (vs ws : List ℕ) → length vs ≡ length ps → argument_words ps (vs ++ ws) ≡ argument_words ps vs
-words_before [] vs ws e = refl
-words_before (p ∷ ps) [] ws e = let z : ⊥ = omega arith in absurd z
-words_before (p ∷ ps) (v ∷ vs) ws e = ap (λ (xs : List ℕ). word_of (kind_code p.kind) v ∷ xs) (words_before ps vs ws (omega arith))
-
-pub fault_before : (k : ℕ) (ps : List Parameter) (vs ws : List ℕ) → length vs ≡ length ps → value_fault k ps (vs ++ ws) ≡ value_fault k ps vs
-fault_before k [] vs ws e = refl
-fault_before k (p ∷ ps) [] ws e = let z : ⊥ = omega arith in absurd z
-fault_before k (p ∷ ps) (v ∷ vs) ws e =
-    ap (or_else (deny_unless (within p v) (blame OutOfRange k))) (fault_before (suc k) ps vs ws (omega arith))
 
 -- where no argument is left
 pub none_put : (k : ℕ) (ps : List Parameter) (vs buffer : List ℕ) → (length ps ≡ 0) ⊎ (length vs ≡ 0) → put k (argument_words ps vs) buffer ≡ buffer

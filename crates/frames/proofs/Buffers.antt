@@ -1,26 +1,18 @@
 -- Words put into a buffer: all at once, or one after the other. Assumes nothing.
-use Rattle.std.proofs.Common.{◌≡◌, ℕ, suc, ◌+◌, ◌<◌, ◌≤◌, List, [], ◌∷◌, ◌++◌, length, take, drop, set, sym, ap, ◌∙◌, ap₂, arith}
-use Rattle.std.proofs.lemmas.List.{append_assoc, drop-drop, length-append, drop_at, take_at, take-append-drop, take_more_set, drop-set-lt}
+use Rattle.std.proofs.lemmas.Grind.{common_steps}
+use Rattle.std.proofs.lemmas.Bool.Decides.{nat_tests}
+use Rattle.std.proofs.Common.{◌≡◌, ℕ, suc, ◌+◌, ◌≤◌, List, [], ◌∷◌, ◌++◌, length, take, drop, set, sym, ap, ◌∙◌, ap₂, arith}
+use Rattle.std.proofs.lemmas.List.{append_assoc, drop-drop, length-append, drop_at, take_at}
 use Rattle.frames.specs.Encode.{put}
 
 -- no word
 pub put_none : (a : ℕ) (buffer : List ℕ) → put a [] buffer ≡ buffer
-put_none a buffer = let n : a + 0 ≡ a = omega arith in ap (λ (k : ℕ). take a buffer ++ drop k buffer) n ∙ take-append-drop a buffer
-
--- one word, and then those behind it
-pub put_next : (a : ℕ) (x : ℕ) (ws buffer : List ℕ) → a < length buffer → put (a + 1) ws (set buffer a x) ≡ put a (x ∷ ws) buffer
-put_next a x ws buffer h =
-    let n : (a + 1) + length ws ≡ a + suc (length ws) = omega arith in
-    ap₂ (λ (xs ys : List ℕ). xs ++ (ws ++ ys)) (take_more_set buffer a x h)
-    (drop-set-lt ((a + 1) + length ws) buffer a x (omega arith) ∙ ap (λ (k : ℕ). drop k buffer) n)
-    ∙ append_assoc (take a buffer) (x ∷ []) (ws ++ drop (a + suc (length ws)) buffer)
+put_none a buffer = grind (arith, common_steps, nat_tests)
 
 -- a head, then the arguments, then the data words
 module _ (h x n : ℕ) (arguments ws t : List ℕ) (long : length arguments ≡ n) where
   behind : put 1 arguments (h ∷ t) ≡ h ∷ (arguments ++ drop n t)
-  behind =
-      let e : 1 + length arguments ≡ suc n = omega arith in
-      ap (λ (k : ℕ). take 1 (h ∷ t) ++ (arguments ++ drop k (h ∷ t))) e
+  behind = grind (arith, common_steps, nat_tests)
 
   rest : drop (n + length ws) (arguments ++ drop n t) ≡ drop (n + length ws) t
   rest =

@@ -1,19 +1,17 @@
 -- What the steps of the writer did is what the call's frame is. Assumes nothing.
-use Rattle.std.proofs.Common.{◌≡◌, ℕ, ◌+◌, ◌≤◌, Bool, true, leb, List, ◌∷◌, ◌++◌, length, take, Some, None, Ok, Err, Option, Result, sym, ap, ◌∙◌, subst, ap₂}
+use Rattle.std.proofs.lemmas.Grind.{common_steps}
+use Rattle.std.proofs.lemmas.Bool.Decides.{nat_tests}
+use Rattle.std.proofs.Common.{arith, ◌≡◌, ℕ, ◌+◌, ◌≤◌, true, List, length, take, Some, None, Ok, Err, Option, Result, sym, ap, ◌∙◌, subst}
 use Rattle.std.proofs.lemmas.List.{take_at}
-use Rattle.frames.specs.declared.fault.Flaw.TheVariants.{WrongCount}
 use Rattle.frames.specs.Faults.{FrameFault}
-use Rattle.frames.specs.Faults.{blame}
-use Rattle.frames.specs.Words.{head_of}
 use Rattle.frames.specs.Table.{parameters_of, arity, data_of, takes_data}
 use Rattle.frames.specs.Requests.{Request, call_number, arguments_of, data_in, reply_words}
-use Rattle.frames.specs.Decode.{unless, or_else, deny_unless, past_end, decode}
+use Rattle.frames.specs.Decode.{unless, past_end, decode}
 use Rattle.frames.specs.Walks.{TakenApart}
 use Rattle.frames.specs.Encode.{frame_of, encode, value_fault, refusal, put, buffer_after}
-use Rattle.frames.proofs.Outcomes.{none_from_ok, some_from_err}
+use Rattle.frames.proofs.Outcomes.{none_from_ok}
 use Rattle.frames.proofs.Ranges.{Passes, not_refused}
-use Rattle.frames.proofs.Arguments.{words_before, fault_before}
-use Rattle.frames.proofs.RoundTrip.{regular, encode_length, decodes}
+use Rattle.frames.proofs.RoundTrip.{decodes}
 
 -- what the writer promises where it writes: n words of a frame, in the buffer `after`
 pub record Encoded (c : Request) (before after : List ℕ) (n : ℕ) : Type 0 where
@@ -37,40 +35,29 @@ pub record Refused (c : Request) (buffer : List ℕ) (r : Result ℕ FrameFault)
   pub same : buffer ≡ buffer_after (refusal c (length buffer)) (encode c) buffer
 
 pub refused : (c : Request) (buffer : List ℕ) (r : Result ℕ FrameFault) (x : FrameFault) → r ≡ Err x → refusal c (length buffer) ≡ Some x → Refused c buffer r
-refused c buffer r x e d =
-    record {
-      value = e ∙ ap (λ (o : Option FrameFault). unless o (length (encode c))) (sym d);
-      same = ap (λ (o : Option FrameFault). buffer_after o (encode c) buffer) (sym d);
-    }
+refused c buffer r x e d = grind (arith, common_steps, nat_tests)
 
 -- the parts of a call c: its number n, the values in the order of the frame, and the data words
 module _ {c : Request} {n : ℕ} {vs ds : List ℕ} (taken : TakenApart n vs ds c) where
   same_count : takes_data (data_of n) (length ds) ≡ takes_data (data_of (call_number c)) (length (data_in c))
-  same_count = ap₂ (λ (k : ℕ) (xs : List ℕ). takes_data (data_of k) (length xs)) taken.number taken.words
+  same_count = grind (arith, common_steps, nat_tests)
 
   same_fault : value_fault 1 (parameters_of n) vs ≡ value_fault 1 (parameters_of (call_number c)) (arguments_of c)
-  same_fault =
-      ap₂ (λ (k : ℕ) (xs : List ℕ). value_fault 1 (parameters_of k) xs) taken.number taken.values
-      ∙ fault_before 1 (parameters_of (call_number c)) (arguments_of c) _ (regular c).same
+  same_fault = grind (arith, common_steps, nat_tests)
 
   same_length : (1 + arity n) + length ds ≡ length (encode c)
-  same_length = ap₂ (λ (k : ℕ) (xs : List ℕ). (1 + arity k) + length xs) taken.number taken.words ∙ sym (encode_length c)
+  same_length = grind (arith, common_steps, nat_tests)
 
   same_frame : frame_of n (parameters_of n) vs ds ≡ encode c
-  same_frame =
-      ap₂ (λ (k : ℕ) (xs : List ℕ). frame_of k (parameters_of k) xs ds) taken.number taken.values
-      ∙ ap₂ (λ (xs ys : List ℕ). head_of (call_number c) (arity (call_number c) + length ys) ∷ (xs ++ ys)) (words_before (parameters_of (call_number c)) (arguments_of c) _ (regular c).same) taken.words
+  same_frame = grind (arith, common_steps, nat_tests)
 
   -- a value out of its range is the fault, where the data words are as they should be
   pub denied_value : (room : ℕ) (x : FrameFault) → takes_data (data_of n) (length ds) ≡ true → Err x ≡ unless {A = Unit {0}} (value_fault 1 (parameters_of n) vs) tt → refusal c room ≡ Some x
-  denied_value room x t v =
-      ap₂ (λ (b : Bool) (o : Option FrameFault). or_else (deny_unless b (blame WrongCount 0)) (or_else o (or_else (past_end c) (deny_unless (leb (length (encode c)) room) (blame WrongCount 0))))) (sym same_count ∙ t) (sym same_fault ∙ some_from_err _ x v)
+  denied_value room x t v = grind (arith, common_steps, nat_tests)
 
   -- and the end of its segment, where the values are too
   pub denied_end : (room : ℕ) (x : FrameFault) → takes_data (data_of n) (length ds) ≡ true → Ok tt ≡ unless {A = Unit {0}} (value_fault 1 (parameters_of n) vs) tt → Err x ≡ unless {A = Unit {0}} (past_end c) tt → refusal c room ≡ Some x
-  denied_end room x t v e =
-      ap₂ (λ (b : Bool) (o : Option FrameFault). or_else (deny_unless b (blame WrongCount 0)) (or_else o (or_else (past_end c) (deny_unless (leb (length (encode c)) room) (blame WrongCount 0))))) (sym same_count ∙ t) (sym same_fault ∙ none_from_ok _ v)
-      ∙ ap (λ (o : Option FrameFault). or_else o (deny_unless (leb (length (encode c)) room) (blame WrongCount 0))) (some_from_err _ x e)
+  denied_end room x t v e = grind (arith, common_steps, nat_tests)
 
   pub encoded : (before after : List ℕ) (long : ℕ) → takes_data (data_of n) (length ds) ≡ true → Ok tt ≡ unless {A = Unit {0}} (value_fault 1 (parameters_of n) vs) tt → Ok tt ≡ unless {A = Unit {0}} (past_end c) tt → long ≡ (1 + arity n) + length ds → long ≤ length before → after ≡ put 0 (frame_of n (parameters_of n) vs ds) before → Encoded c before after long
   encoded before after long t v e is_long fits is =

@@ -1,5 +1,5 @@
 -- Faults and results, taken apart. Assumes nothing.
-use Rattle.std.proofs.Common.{◌≡◌, ℕ, Bool, true, false, cond, Some, None, Ok, Err, Option, Result, refl}
+use Rattle.std.proofs.Common.{◌≡◌, ℕ, Bool, true, false, Some, None, Ok, Err, Option, Result, refl}
 use Rattle.frames.specs.Faults.{FrameFault}
 use Rattle.frames.specs.Decode.{bind, unless, or_else, deny_unless, err_or}
 
@@ -10,10 +10,6 @@ bind_ok (Err f) k y e = cc
 pub unless_ok : {A : Type 0} (o : Option FrameFault) (x y : A) → unless o x ≡ Ok y → (o ≡ None) × (x ≡ y)
 unless_ok None x y e = (refl, cc)
 unless_ok (Some f) x y e = cc
-
-pub cond_ok : {A : Type 0} (b : Bool) (r : Result A FrameFault) (f : FrameFault) (x : A) → cond b r (Err f) ≡ Ok x → (b ≡ true) × (r ≡ Ok x)
-cond_ok true r f x e = (refl, e)
-cond_ok false r f x e = cc
 
 pub or_else_none : (a b : Option FrameFault) → or_else a b ≡ None → (a ≡ None) × (b ≡ None)
 or_else_none None b e = (refl, e)
@@ -30,7 +26,3 @@ test_passed false f e = cc
 pub none_from_ok : (o : Option FrameFault) → Ok tt ≡ unless {A = Unit {0}} o tt → o ≡ None
 none_from_ok None e = refl
 none_from_ok (Some f) e = cc
-
-pub some_from_err : (o : Option FrameFault) (x : FrameFault) → Err x ≡ unless {A = Unit {0}} o tt → o ≡ Some x
-some_from_err None x e = cc
-some_from_err (Some f) x e = cc

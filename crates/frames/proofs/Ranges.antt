@@ -1,13 +1,13 @@
 -- A call is in range exactly where the tests of the writer pass. Assumes nothing.
-use Rattle.std.proofs.Common.{◌≡◌, ℕ, zero, suc, ◌+◌, ◌≤◌, Bool, true, ◌&&◌, leb, List, [], ◌∷◌, length, ℤ, pos, negsuc, None, Option, refl, ap, ◌∙◌, ap₂, arith}
+use Rattle.std.proofs.lemmas.Grind.{common_steps}
+use Rattle.std.proofs.Common.{◌≡◌, ℕ, zero, suc, ◌+◌, ◌≤◌, Bool, true, ◌&&◌, leb, List, [], ◌∷◌, length, ℤ, pos, negsuc, None, Option, refl, ap₂, arith}
 use Rattle.std.proofs.lemmas.Int.{ints}
-use Rattle.std.proofs.lemmas.Bool.{and_parts, and_from, leb-true, le-leb}
+use Rattle.std.proofs.lemmas.Bool.{leb-true}
 use Rattle.std.proofs.lemmas.Bool.Decides.{nat_tests}
 use Rattle.frames.specs.declared.fault.Flaw.TheVariants.{WrongCount, OutOfRange}
-use Rattle.frames.specs.Faults.{FrameFault}
+use Rattle.frames.specs.Faults.{FrameFault, blame}
 use Rattle.frames.specs.declared.table.Parameter.{Parameter}
 use Rattle.frames.specs.Words.{unsigned}
-use Rattle.frames.specs.Faults.{blame}
 use Rattle.frames.specs.Table.{within, amount, parameters_of, data_of, takes_data}
 use Rattle.frames.specs.Requests.{Request, create_segment, create_directory, make_known, terminate, read, write, truncate, delete, move_quota, status, quota, call_number, arguments_of, data_in}
 use Rattle.frames.specs.Decode.{or_else, deny_unless, past_end}
@@ -41,10 +41,10 @@ no_fault n (p ∷ ps) (v ∷ vs) w =
     ap₂ (λ (b : Bool) (o : Option FrameFault). or_else (deny_unless b (blame OutOfRange n)) o) w.0 (no_fault (suc n) ps vs w.1)
 
 bounds : (a v b : ℕ) → (leb a v && leb v b) ≡ true → (a ≤ v) × (v ≤ b)
-bounds a v b e = let p = and_parts (leb a v) (leb v b) e in (leb-true a v p.0, leb-true v b p.1)
+bounds a v b e = grind (arith, common_steps, nat_tests)
 
 inside : (a v b : ℕ) → a ≤ v → v ≤ b → (leb a v && leb v b) ≡ true
-inside a v b l h = and_from (leb a v) (leb v b) (le-leb a v l) (le-leb v b h)
+inside a v b l h = grind (arith, common_steps, nat_tests)
 
 at_most : (v b : ℕ) → v ≤ b → (leb 0 v && leb v b) ≡ true
 at_most v b h = inside 0 v b (omega arith) h
@@ -67,7 +67,7 @@ ends : (a b : ℕ) (f : FrameFault) → deny_unless (leb a b) f ≡ None → a �
 ends a b f e = leb-true a b (test_passed (leb a b) f e)
 
 ends_so : (a b : ℕ) (f : FrameFault) → a ≤ b → deny_unless (leb a b) f ≡ None
-ends_so a b f h = ap (λ (t : Bool). deny_unless t f) (le-leb a b h)
+ends_so a b f h = grind (arith, common_steps, nat_tests)
 
 -- each argument that the writer admits is in its range
 ranged : (c : Request) → takes_data (data_of (call_number c)) (length (data_in c)) ≡ true → Within (parameters_of (call_number c)) (arguments_of c) → past_end c ≡ None → InRange c
@@ -104,17 +104,13 @@ admitted (status d e) r = (refl, (at_most d 15 r.0, (at_most e 15 r.1, tt)), ref
 admitted (quota d) r = (refl, (at_most d 15 r, tt), refl)
 
 pub in_range : (c : Request) → Passes c → InRange c
-in_range c p = ranged c p.counted (all_within 1 (parameters_of (call_number c)) (arguments_of c) p.valued) p.ended
+in_range c p = grind (arith, common_steps, nat_tests)
 
 pub passes : (c : Request) → InRange c → Passes c
-passes c r =
-    let a = admitted c r in
-    record { counted = a.0; valued = no_fault 1 (parameters_of (call_number c)) (arguments_of c) a.1; ended = a.2 }
+passes c r = grind (arith, common_steps, nat_tests)
 
 pub not_refused : (c : Request) (room : ℕ) → Passes c → length (encode c) ≤ room → refusal c room ≡ None
-not_refused c room p fits =
-    ap₂ (λ (b : Bool) (o : Option FrameFault). or_else (deny_unless b (blame WrongCount 0)) (or_else o (or_else (past_end c) (deny_unless (leb (length (encode c)) room) (blame WrongCount 0))))) p.counted p.valued
-    ∙ ap₂ (λ (o : Option FrameFault) (b : Bool). or_else o (deny_unless b (blame WrongCount 0))) p.ended (le-leb (length (encode c)) room fits)
+not_refused c room p fits = grind (arith, common_steps, nat_tests)
 
 pub passes_both : (c : Request) (room : ℕ) → refusal c room ≡ None → Passes c × (length (encode c) ≤ room)
 passes_both c room e =

@@ -161,10 +161,7 @@ impl<'a> Parts<'a> {
         ensures { let n = operation_number self.now.operation in buffer.new ≡ put 0 (frame_of n (parameters_of n) self.now.values self.now.words.now) buffer.old }
     {
         let arguments = self.operation.signature().parameters.len();
-        buffer[0] = word::head(
-            self.operation.number(),
-            (arguments + self.words.len()) as u32,
-        );
+        buffer[0] = word::head(self.operation, (arguments + self.words.len()) as u32);
         self.put_arguments(buffer);
         put_words(self.words, 1 + arguments, buffer);
     }

@@ -1,4 +1,4 @@
--- What the walk over a call's arguments answers. Assumes nothing.
+-- What the walk over a call's arguments answers, and what a call comes to when it is taken apart. Assumes nothing.
 use Rattle.std.specs.Prelude.{◌≡◌, ℕ, ◌-◌, List, ◌++◌, map, length, take, replicate, Some, None, Ok, Err, Result}
 use Rattle.frames.specs.Faults.{FrameFault}
 use Rattle.frames.specs.declared.table.Parameter.{Parameter}

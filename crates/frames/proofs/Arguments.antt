@@ -1,17 +1,17 @@
 -- The arguments of a call that is written: their words, and the test of their values, one after the other. Assumes nothing.
-use Rattle.std.proofs.Common.{◌≡◌, ℕ, suc, ◌+◌, ◌≤◌, ◌++◌, Bool, true, false, not, cond, Some, List, [], ◌∷◌, length, sym, refl, ap, ◌∙◌, ap₂, arith, lit≤, ◌⊎◌, inl, inr, set}
+use Rattle.std.proofs.Common.{◌≡◌, ℕ, suc, ◌+◌, ◌≤◌, ◌++◌, Bool, not, List, [], ◌∷◌, length, sym, refl, ap, ◌∙◌, ap₂, arith, ◌⊎◌, inl, inr, set}
+use Rattle.std.proofs.lemmas.Grind.{common_steps}
+use Rattle.std.proofs.lemmas.Bool.Decides.{nat_tests}
 use Rattle.std.proofs.lemmas.Iterator.Adapters.{position_from-zero}
 use Rattle.std.specs.Option.{option_map}
 use Rattle.std.specs.List.{position_from, position, zip}
 use Rattle.frames.specs.declared.fault.Flaw.TheVariants.{OutOfRange}
 use Rattle.frames.specs.declared.table.Parameter.{Parameter}
 use Rattle.frames.specs.declared.operation.Operation.{Operation}
-use Rattle.frames.specs.declared.operation.Operation.TheVariants.{CreateSegment, CreateDirectory, MakeKnown, Terminate, Read, Write, Truncate, Delete, MoveQuota, Status, Quota}
 use Rattle.frames.specs.Operations.{operation_number}
 use Rattle.frames.specs.Words.{head_of}
 use Rattle.frames.specs.Faults.{blame}
 use Rattle.frames.specs.Table.{within, parameters_of, arity}
-use Rattle.frames.specs.Decode.{or_else, deny_unless}
 use Rattle.frames.specs.Encode.{argument_words, frame_of, value_fault, put}
 use Rattle.frames.proofs.Buffers.{put_none, filled}
 
@@ -29,17 +29,7 @@ none_put k (p ∷ ps) (v ∷ vs) buffer (inl e) = let z : ⊥ = omega arith in a
 none_put k (p ∷ ps) (v ∷ vs) buffer (inr e) = let z : ⊥ = omega arith in absurd z
 
 few_arguments : (o : Operation) → arity (operation_number o) ≤ 5
-few_arguments CreateSegment = lit≤ tt
-few_arguments CreateDirectory = lit≤ tt
-few_arguments MakeKnown = lit≤ tt
-few_arguments Terminate = lit≤ tt
-few_arguments Read = lit≤ tt
-few_arguments Write = lit≤ tt
-few_arguments Truncate = lit≤ tt
-few_arguments Delete = lit≤ tt
-few_arguments MoveQuota = lit≤ tt
-few_arguments Status = lit≤ tt
-few_arguments Quota = lit≤ tt
+few_arguments o = grind arith
 
 -- head, arguments and data words, put one behind the other
 pub frame_put : (o : Operation) (ps : List Parameter) (vs ws buffer argued all : List ℕ) (h : ℕ) → length vs ≡ 5 → ps ≡ parameters_of (operation_number o) → (1 + arity (operation_number o)) + length ws ≤ length buffer → h ≡ head_of (operation_number o) (length ps + length ws) → argued ≡ put 1 (argument_words (parameters_of (operation_number o)) vs) (set buffer 0 h) → all ≡ put (1 + length ps) ws argued → all ≡ put 0 (frame_of (operation_number o) (parameters_of (operation_number o)) vs ws) buffer
@@ -59,12 +49,7 @@ fault_from : (n : ℕ) (ps : List Parameter) (vs : List ℕ) → option_map (λ 
 fault_from n [] vs = refl
 fault_from n (p ∷ ps) [] = refl
 fault_from n (p ∷ ps) (v ∷ vs) =
-    let r = fault_from (n + 1) ps vs in
-    let m : 1 + (n + 1) ≡ suc (1 + n) = omega arith in
-    elim (within p v) as (λ b. option_map (λ i. blame OutOfRange (1 + i)) (cond (not b) (Some n) (position_from outside (n + 1) (zip ps vs))) ≡ or_else (deny_unless b (blame OutOfRange (1 + n))) (value_fault (suc (1 + n)) ps vs)) [
-      | true ↦ r ∙ ap (λ (k : ℕ). value_fault k ps vs) m
-      | false ↦ refl
-    ]
+    let r = fault_from (n + 1) ps vs in grind (arith, common_steps, nat_tests)
 
 -- the fault of the values is that of the first outside
 pub fault_at : (ps : List Parameter) (vs : List ℕ) → value_fault 1 ps vs ≡ option_map (λ i. blame OutOfRange (1 + i)) (position outside (zip ps vs))

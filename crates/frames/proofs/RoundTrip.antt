@@ -1,6 +1,6 @@
 -- The frame of a call that passes the tests of the writer reads back as that call. Assumes nothing.
 use Rattle.std.proofs.lemmas.Grind.{common_steps}
-use Rattle.std.proofs.Common.{◌≡◌, ℕ, suc, ◌+◌, ◌-◌, ◌^◌, ◌<◌, ◌≤◌, Bool, true, cond, ◌&&◌, ltb, List, [], ◌∷◌, ◌++◌, map, length, get_or, ℤ, pos, negsuc, None, Ok, Err, Option, Result, sym, refl, ap, ◌∙◌, ap₂, arith, lit≤}
+use Rattle.std.proofs.Common.{◌≡◌, ℕ, suc, ◌+◌, ◌-◌, ◌^◌, ◌<◌, ◌≤◌, Bool, true, cond, ◌&&◌, ltb, List, [], ◌∷◌, ◌++◌, map, length, get_or, ℤ, pos, negsuc, None, Ok, Err, Option, Result, sym, refl, ap, ◌∙◌, ap₂, arith}
 use Rattle.std.proofs.lemmas.List.{take_at, drop_at}
 use Rattle.std.proofs.lemmas.Bool.{and_from, eq-eqb, le-leb, lt-ltb}
 use Rattle.std.proofs.lemmas.Bool.Decides.{nat_tests}
@@ -48,17 +48,7 @@ pub record Regular (c : Request) : Type 0 where
   pub few_data : data_of (call_number c) ≤ 16
 
 pub regular : (c : Request) → Regular c
-regular (create_segment d e) = record { low = lit≤ tt; high = lit≤ tt; same = refl; few = lit≤ tt; few_data = lit≤ tt }
-regular (create_directory d e s i g) = record { low = lit≤ tt; high = lit≤ tt; same = refl; few = lit≤ tt; few_data = lit≤ tt }
-regular (make_known d e n) = record { low = lit≤ tt; high = lit≤ tt; same = refl; few = lit≤ tt; few_data = lit≤ tt }
-regular (terminate n) = record { low = lit≤ tt; high = lit≤ tt; same = refl; few = lit≤ tt; few_data = lit≤ tt }
-regular (read s f n) = record { low = lit≤ tt; high = lit≤ tt; same = refl; few = lit≤ tt; few_data = lit≤ tt }
-regular (write s f ws) = record { low = lit≤ tt; high = lit≤ tt; same = refl; few = lit≤ tt; few_data = lit≤ tt }
-regular (truncate s k) = record { low = lit≤ tt; high = lit≤ tt; same = refl; few = lit≤ tt; few_data = lit≤ tt }
-regular (delete d e) = record { low = lit≤ tt; high = lit≤ tt; same = refl; few = lit≤ tt; few_data = lit≤ tt }
-regular (move_quota d e z) = record { low = lit≤ tt; high = lit≤ tt; same = refl; few = lit≤ tt; few_data = lit≤ tt }
-regular (status d e) = record { low = lit≤ tt; high = lit≤ tt; same = refl; few = lit≤ tt; few_data = lit≤ tt }
-regular (quota d) = record { low = lit≤ tt; high = lit≤ tt; same = refl; few = lit≤ tt; few_data = lit≤ tt }
+regular c = record { low = grind arith; high = grind arith; same = grind arith; few = grind arith; few_data = grind arith }
 
 at_most : (most n : ℕ) → takes_data most n ≡ true → n ≤ most
 at_most most n e = grind (arith, nat_tests)

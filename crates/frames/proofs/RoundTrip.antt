@@ -1,43 +1,27 @@
 -- The frame of a call that passes the tests of the writer reads back as that call. Assumes nothing.
 use Rattle.std.proofs.lemmas.Grind.{common_steps}
-use Rattle.std.proofs.Common.{◌≡◌, ℕ, suc, ◌+◌, ◌-◌, ◌^◌, ◌<◌, ◌≤◌, Bool, true, cond, ◌&&◌, ltb, List, [], ◌∷◌, ◌++◌, map, length, get_or, ℤ, pos, negsuc, None, Ok, Err, Option, Result, sym, refl, ap, ◌∙◌, ap₂, arith}
-use Rattle.std.proofs.lemmas.List.{take_at, drop_at}
+use Rattle.std.proofs.Common.{◌≡◌, ℕ, suc, ◌+◌, ◌-◌, ◌^◌, ◌<◌, ◌≤◌, Bool, true, cond, ◌&&◌, ltb, List, [], ◌∷◌, ◌++◌, map, length, None, Ok, Err, Option, Result, sym, refl, ap, ◌∙◌, ap₂, arith}
 use Rattle.std.proofs.lemmas.Bool.{and_from, eq-eqb, le-leb, lt-ltb}
 use Rattle.std.proofs.lemmas.Bool.Decides.{nat_tests}
 use Rattle.frames.specs.declared.fault.Flaw.TheVariants.{NotACall, WrongCount, OutOfRange}
 use Rattle.frames.specs.Faults.{FrameFault, blame}
 use Rattle.frames.specs.declared.table.Parameter.{Parameter}
-use Rattle.frames.specs.Words.{value_of, word_of, number_in, count_in, head_of, unsigned}
+use Rattle.frames.specs.Words.{value_of, word_of, number_in, count_in, head_of}
 use Rattle.frames.specs.Table.{kind_code, within, parameters_of, arity, data_of, takes_data, takes}
-use Rattle.frames.specs.Requests.{Request, create_segment, create_directory, make_known, terminate, read, write, truncate, delete, move_quota, status, quota, call_number, arguments_of, data_in, reply_words}
-use Rattle.frames.specs.Decode.{bind, unless, or_else, deny_unless, argument, err_or, argument_fault, is_head, is_counted, call_in, request_of, request_in, spelled, past_end, past_room, decode}
+use Rattle.frames.specs.Requests.{Request, call_number, arguments_of, data_in, reply_words}
+use Rattle.frames.specs.Decode.{bind, unless, or_else, deny_unless, argument, err_or, argument_fault, is_head, is_counted, call_in, request_in, spelled, past_end, past_room, decode}
 use Rattle.frames.specs.Encode.{argument_words, encode}
 use Rattle.frames.specs.Ranges.{InRange}
 use Rattle.frames.proofs.Words.{value_of_word, count_of_head}
-use Rattle.frames.proofs.Ranges.{Passes, Within, in_range, passes}
-use Rattle.frames.proofs.Parts.{made_again}
+use Rattle.frames.proofs.Ranges.{Passes, Within, passes}
 
 -- each value has 28 bits
 abbrev Small : List ℕ → Type 0
 Small [] = Unit {0}
 Small (v ∷ vs) = (v < 2 ^ 28) × Small vs
 
-unsigned_small : (z : ℤ) → unsigned z < 2 ^ 28
-unsigned_small (pos n) = omega arith
-unsigned_small (negsuc n) = omega arith
-
 all_small : (c : Request) → InRange c → Small (arguments_of c)
-all_small (create_segment d e) r = (omega (arith, r.0), (omega (arith, r.1), tt))
-all_small (create_directory d e s i g) r = (omega (arith, r.0), (omega (arith, r.1), (r.2, (r.3, (omega (arith, r.4), tt)))))
-all_small (make_known d e n) r = (omega (arith, r.0), (omega (arith, r.1), (omega (arith, r.2), tt)))
-all_small (terminate n) r = (omega (arith, r.1), tt)
-all_small (read s f n) r = (omega (arith, r.0), (omega (arith, r.1), (omega (arith, r.3), tt)))
-all_small (write s f ws) r = (omega (arith, r.0), (omega (arith, r.1), tt))
-all_small (truncate s k) r = (omega (arith, r.0), (omega (arith, r.1), tt))
-all_small (delete d e) r = (omega (arith, r.0), (omega (arith, r.1), tt))
-all_small (move_quota d e z) r = (omega (arith, r.0), (omega (arith, r.1), (unsigned_small z, tt)))
-all_small (status d e) r = (omega (arith, r.0), (omega (arith, r.1), tt))
-all_small (quota d) r = (omega arith, tt)
+all_small c r = grind (arith, common_steps, nat_tests)
 
 -- the table has a row for each call, with as many arguments as the call has, and few words
 pub record Regular (c : Request) : Type 0 where
@@ -87,7 +71,7 @@ module _ (c : Request) (p : Passes c) where
   short = grind (arith, common_steps, nat_tests)
 
   small : Small (arguments_of c)
-  small = all_small c (in_range c p)
+  small = grind (arith, common_steps, nat_tests)
 
   inside : Within (parameters_of (call_number c)) (arguments_of c)
   inside = grind (arith, common_steps, nat_tests)
@@ -129,12 +113,7 @@ module _ (c : Request) (p : Passes c) where
 
   asked : request_in (call_number c) words ≡ c
   unfolding words
-  asked =
-      ap₂ (λ (xs ys : List ℕ). request_of (call_number c) (λ i. get_or (map value_of xs) i 0) ys)
-      (take_at (argument_words (parameters_of (call_number c)) (arguments_of c)) (data_in c) (arity (call_number c)) (arguments_count c))
-      (drop_at (argument_words (parameters_of (call_number c)) (arguments_of c)) (data_in c) (arity (call_number c)) (arguments_count c))
-      ∙ ap (λ (xs : List ℕ). request_of (call_number c) (λ i. get_or xs i 0) (data_in c)) (values_back (parameters_of (call_number c)) (arguments_of c) small (regular c).same)
-      ∙ made_again c inside
+  asked = grind arith
 
   spells : spelled (head ∷ words) ≡ Ok c
   spells =

@@ -1,8 +1,7 @@
 -- Words and heads, put together and taken apart again. Assumes nothing.
-use Rattle.std.proofs.Common.{◌≡◌, ℕ, ◌^◌, ◌<◌, ◌≤◌, true, ℤ, pos, negsuc, arith}
+use Rattle.std.proofs.Common.{◌≡◌, ℕ, ◌^◌, ◌<◌, ◌≤◌, arith}
 use Rattle.std.proofs.lemmas.Bool.Decides.{nat_tests}
 use Rattle.frames.specs.Words.{kind_of, value_of, word_of, count_in, head_of, signed, unsigned}
-use Rattle.frames.specs.Table.{within, amount}
 
 pub value_of_word : (k v : ℕ) → v < 2 ^ 28 → value_of (word_of k v) ≡ v
 value_of_word k v h = omega arith
@@ -15,7 +14,3 @@ count_of_head n k h l = omega arith
 
 pub unsigned_signed : (v : ℕ) → v < 2 ^ 28 → unsigned (signed v) ≡ v
 unsigned_signed v h = grind (arith, nat_tests)
-
-pub signed_unsigned : (z : ℤ) → within amount (unsigned z) ≡ true → signed (unsigned z) ≡ z
-signed_unsigned (pos n) e = grind (arith, nat_tests)
-signed_unsigned (negsuc n) e = grind (arith, nat_tests)

@@ -1,6 +1,6 @@
 //! Frames, written and read.
 use frames::call::Call;
-use frames::fault::{Flaw, FrameFault};
+use frames::fault::{Flaw, FrameFault, Reason};
 use frames::{decode, encode};
 
 /// A move of one record back out of the directory at place 3.
@@ -51,36 +51,44 @@ fn values_come_before_the_buffer(rt: HostRuntime) {
     assert_eq!(rt; buffer, [7; 3]);
 }
 
-/// Why a frame is denied with a reply buffer of 16 words.
-fn denial(frame: &[u32]) -> Option<FrameFault> {
-    match decode(frame, 16) {
-        Ok(_) => None,
-        Err(fault) => Some(fault),
-    }
+/// The call that a frame asks for, or why it is denied, with a reply buffer of 16 words.
+fn decoded(frame: &[u32]) -> Result<Call<'_>, FrameFault> {
+    decode(frame, 16)
 }
 
 #[test]
 fn denies_the_first_fault(rt: HostRuntime) {
-    assert_eq!(rt; denial(&[]), Some(Flaw::NotACall.at(0)));
-    assert_eq!(rt; denial(&[0x800B_0001, 0x1000_000F]), None);
+    assert_eq!(rt; decoded(&[]), Err(Flaw::NotACall.at(0)));
     assert_eq!(rt;
-        denial(&[0x800B_0001, 0x2000_0010]),
-        Some(Flaw::WrongKind.at(1))
+        decoded(&[0x800B_0001, 0x1000_000F]),
+        Ok(Call::Quota { directory: 15 })
     );
     assert_eq!(rt;
-        denial(&[0x8009_0003, 0x1000_0000, 0x2000_0000, 0x4FFF_FF00]),
-        None
+        decoded(&[0x800B_0001, 0x2000_0010]),
+        Err(Flaw::WrongKind.at(1))
     );
     assert_eq!(rt;
-        denial(&[0x8009_0003, 0x1000_0000, 0x2000_0000, 0x4FFF_FEFF]),
-        Some(Flaw::OutOfRange.at(3))
+        decoded(&[0x8009_0003, 0x1000_0000, 0x2000_0000, 0x4FFF_FF00]),
+        Ok(Call::MoveQuota {
+            directory: 0,
+            entry: 0,
+            amount: -256,
+        })
     );
     assert_eq!(rt;
-        denial(&[0x8005_0003, 0x1000_0000, 0x3000_00FF, 0x3000_0001]),
-        None
+        decoded(&[0x8009_0003, 0x1000_0000, 0x2000_0000, 0x4FFF_FEFF]),
+        Err(Flaw::OutOfRange.at(3))
     );
     assert_eq!(rt;
-        denial(&[0x8005_0003, 0x1000_0000, 0x3000_00FF, 0x3000_0002]),
-        Some(Flaw::OutOfRange.at(3))
+        decoded(&[0x8005_0003, 0x1000_0000, 0x3000_00FF, 0x3000_0001]),
+        Ok(Call::Read {
+            segment: 0,
+            first: 255,
+            count: 1,
+        })
+    );
+    assert_eq!(rt;
+        decoded(&[0x8005_0003, 0x1000_0000, 0x3000_00FF, 0x3000_0002]),
+        Err(Flaw::OutOfRange.at(3))
     );
 }

@@ -1,7 +1,7 @@
 //! Lines of a listing, calls and denied frames in words.
 use frames::call::Call;
 use frames::decode;
-use frames::fault::{Flaw, FrameFault};
+use frames::fault::{Flaw, FrameFault, Reason};
 use listing::line::{Line, Submission};
 use std::fmt;
 
@@ -99,10 +99,10 @@ struct Denied(FrameFault);
 
 impl fmt::Display for Denied {
     fn fmt<W: fmt::Write>(&self, f: &mut fmt::Formatter<W>) -> fmt::Result {
-        let FrameFault { flaw, place } = self.0;
-        let number = flaw.number();
+        let FrameFault { reason, place } = self.0;
+        let number = reason.number();
         let layer = self.0.layer();
-        let reason = match flaw {
+        let reason = match reason {
             Flaw::NotAdmitted => "the process is not admitted",
             Flaw::NotACall => "no head of a call",
             Flaw::WrongCount => "wrong count of words",

@@ -1,40 +1,27 @@
 -- What the steps of the decoder found is what the frame means. Assumes nothing.
-use Rattle.std.proofs.Common.{◌≡◌, ℕ, zero, suc, ◌+◌, List, [], ◌∷◌, ◌++◌, map, length, get_or, take, drop, replicate, Ok, Option, Result, sym, refl, ap, ◌∙◌, subst, ap₂}
-use Rattle.std.proofs.lemmas.List.{drop-drop}
-use Rattle.frames.specs.declared.fault.FrameFault.{FrameFault}
+use Rattle.std.proofs.lemmas.Bool.Decides.{nat_tests}
+use Rattle.std.proofs.Common.{◌≡◌, ℕ, ◌+◌, List, ◌++◌, map, length, get_or, take, drop, replicate, Ok, Option, sym, ap, ◌∙◌, ap₂, arith}
+use Rattle.std.proofs.lemmas.Grind.{common_steps}
+use Rattle.frames.specs.Faults.{FrameFault}
 use Rattle.frames.specs.declared.table.Parameter.{Parameter}
 use Rattle.frames.specs.Words.{value_of}
 use Rattle.frames.specs.Table.{parameters_of, arity}
 use Rattle.frames.specs.Requests.{Request}
-use Rattle.frames.specs.Decode.{bind, unless, or_else, argument_fault, call_in, request_of, request_in, spelled, past_end, past_room, decode}
+use Rattle.frames.specs.Decode.{bind, unless, argument_fault, call_in, request_of, request_in, spelled, past_end, past_room, decode}
 use Rattle.frames.specs.Walks.{Walked}
-use Rattle.frames.proofs.Outcomes.{none_from_ok}
 
 -- zeros behind a list change none of its values
-zeros : (k i : ℕ) → ◌≡◌ {A = ℕ} (get_or (replicate k 0) i 0) 0
-zeros zero i = refl
-zeros (suc k) zero = refl
-zeros (suc k) (suc i) = zeros k i
-
 behind_zeros : (xs : List ℕ) (k i : ℕ) → get_or (xs ++ replicate k 0) i 0 ≡ get_or xs i 0
-behind_zeros [] k i = zeros k i
-behind_zeros (x ∷ xs) k zero = refl
-behind_zeros (x ∷ xs) k (suc i) = behind_zeros xs k i
+behind_zeros xs k i = grind (arith, common_steps)
 
 -- what the decoder knows when it has read the words of a call q of number n: the reader began at place a of the frame b,
 -- and is now at place at of the frame g
 module _ (f b g : List ℕ) (n a at : ℕ) (ps : List Parameter) (vs ds : List ℕ) (q : Request) (named : Ok n ≡ call_in f) (shaped : ps ≡ parameters_of n) (lent : b ≡ f) (behind_head : a ≡ 1) (walked : Walked a ps (drop a b) (Ok vs)) (same : g ≡ b) (here : at ≡ a + length ps) (rest : ds ≡ drop at g) (asked : q ≡ request_of n (λ i. get_or vs i 0) ds) where
   walked_so : Walked 1 (parameters_of n) (drop 1 f) (Ok vs)
-  walked_so =
-      subst (λ (x : List Parameter). Walked 1 x (drop 1 f) (Ok vs)) shaped
-      (subst (λ (k : ℕ). Walked k ps (drop k f) (Ok vs)) behind_head
-      (subst (λ (xs : List ℕ). Walked a ps (drop a xs) (Ok vs)) lent walked))
+  walked_so = grind (arith, common_steps, nat_tests)
 
   data_words : ds ≡ drop (arity n) (drop 1 f)
-  data_words =
-      let d = drop-drop (arity n) 1 f in
-      let k : length ps ≡ arity n = ap length shaped in
-      cc
+  data_words = grind (arith, common_steps, nat_tests)
 
   values : (i : ℕ) → get_or vs i 0 ≡ get_or (map value_of (take (arity n) (drop 1 f))) i 0
   values i = ap (λ (xs : List ℕ). get_or xs i 0) walked_so.1 ∙ behind_zeros (map value_of (take (arity n) (drop 1 f))) _ i
@@ -50,6 +37,4 @@ module _ (f b g : List ℕ) (n a at : ℕ) (ps : List Parameter) (vs ds : List �
 
 -- a call that passes the last two tests is granted
 pub granted : (f : List ℕ) (room : ℕ) (q : Request) → Ok q ≡ spelled f → Ok tt ≡ unless {A = Unit {0}} (past_end q) tt → Ok tt ≡ unless {A = Unit {0}} (past_room q room) tt → decode f room ≡ Ok q
-granted f room q s e r =
-    ap (λ (x : Result Request FrameFault). bind x (λ c. unless (or_else (past_end c) (past_room c room)) c)) (sym s)
-    ∙ ap₂ (λ (x y : Option FrameFault). unless (or_else x y) q) (none_from_ok (past_end q) e) (none_from_ok (past_room q room) r)
+granted f room q s e r = grind (arith, common_steps, nat_tests)

@@ -1,8 +1,10 @@
 -- A frame that asks for a call is the frame of that call, and the call passes the tests of the writer. Assumes nothing.
-use Rattle.std.proofs.Common.{◌≡◌, ℕ, suc, ◌+◌, ◌-◌, ◌≤◌, true, eqb, leb, List, [], ◌∷◌, ◌++◌, map, length, get_or, take, drop, None, Ok, sym, refl, ap, ◌∙◌, subst, ap₂, arith}
-use Rattle.std.proofs.lemmas.List.{take-append-drop, length-take-le, length-drop, length-map}
-use Rattle.std.proofs.lemmas.Bool.{eqb-true, leb-true}
-use Rattle.frames.specs.declared.fault.Flaw.TheVariants.{WrongKind, OutOfRange}
+use Rattle.std.proofs.lemmas.Grind.{common_steps}
+use Rattle.std.proofs.lemmas.Bool.Decides.{nat_tests}
+use Rattle.std.proofs.Common.{◌≡◌, ℕ, suc, ◌+◌, ◌-◌, ◌≤◌, true, leb, List, [], ◌∷◌, ◌++◌, map, length, get_or, take, drop, None, Ok, sym, refl, ap, ◌∙◌, subst, ap₂, arith}
+use Rattle.std.proofs.lemmas.List.{take-append-drop}
+use Rattle.std.proofs.lemmas.Bool.{leb-true}
+use Rattle.frames.specs.declared.fault.Flaw.TheVariants.{OutOfRange}
 use Rattle.frames.specs.declared.table.Parameter.{Parameter}
 use Rattle.frames.specs.Words.{kind_of, value_of, head_of}
 use Rattle.frames.specs.Faults.{blame}
@@ -10,21 +12,19 @@ use Rattle.frames.specs.Table.{kind_code, within, parameters_of, arity, data_of,
 use Rattle.frames.specs.Requests.{Request, call_number, arguments_of, data_in, reply_words}
 use Rattle.frames.specs.Decode.{unless, argument, argument_fault, call_in, request_in, spelled, or_else, past_end, past_room, decode}
 use Rattle.frames.specs.Encode.{argument_words, frame_of, encode, value_fault}
-use Rattle.frames.proofs.Words.{word_again, head_again}
-use Rattle.frames.proofs.Outcomes.{never, bind_ok, unless_ok, cond_ok, or_else_none, err_or_none, test_passed}
-use Rattle.frames.proofs.Heads.{number_is, number_low, number_high, kind_is, count_is, arguments_there, data_taken}
+use Rattle.frames.proofs.Words.{word_again}
+use Rattle.frames.proofs.Outcomes.{bind_ok, unless_ok, or_else_none, err_or_none, test_passed}
+use Rattle.frames.proofs.Heads.{number_low, number_high}
 use Rattle.frames.specs.Ranges.{InRange}
 use Rattle.frames.proofs.Ranges.{Passes, Within, no_fault, in_range}
 use Rattle.frames.proofs.Parts.{listed_again, value_small, parts_are}
 
 -- an argument without a fault has its parameter's kind, and a value within the bounds
 kind_right : (place : ℕ) (p : Parameter) (w v : ℕ) → argument place p w ≡ Ok v → kind_of w ≡ kind_code p.kind
-kind_right place p w v e = eqb-true _ _ (cond_ok (eqb (kind_of w) (kind_code p.kind)) _ (blame WrongKind place) v e).0
+kind_right place p w v e = grind (arith, common_steps, nat_tests)
 
 value_right : (place : ℕ) (p : Parameter) (w v : ℕ) → argument place p w ≡ Ok v → within p (value_of w) ≡ true
-value_right place p w v e =
-    let k = cond_ok (eqb (kind_of w) (kind_code p.kind)) _ (blame WrongKind place) v e in
-    (cond_ok (within p (value_of w)) _ (blame OutOfRange place) v k.1).0
+value_right place p w v e = grind (arith, common_steps, nat_tests)
 
 words_again : (place : ℕ) (ps : List Parameter) (ws : List ℕ) → length ps ≤ length ws → argument_fault place ps ws ≡ None → argument_words ps (map value_of (take (length ps) ws)) ≡ take (length ps) ws
 words_again place [] ws l e = refl
@@ -46,15 +46,13 @@ module _ (h : ℕ) (ws : List ℕ) (n : ℕ) (named : call_in (h ∷ ws) ≡ Ok 
   long = omega arith
 
   covers : arity n ≤ length ws
-  covers = subst (λ (k : ℕ). arity n ≤ k) long (arguments_there (h ∷ ws) n named)
+  covers = grind (arith, common_steps, nat_tests)
 
   values_long : length (map value_of (take (arity n) ws)) ≡ arity n
-  values_long = length-map (take (arity n) ws) value_of ∙ length-take-le (arity n) ws covers
+  values_long = grind (arith, common_steps, nat_tests)
 
   counted : takes_data (data_of n) (length (drop (arity n) ws)) ≡ true
-  counted =
-      ap (takes_data (data_of n)) (length-drop (arity n) ws ∙ ap (λ (k : ℕ). k - arity n) (sym long))
-      ∙ data_taken (h ∷ ws) n named
+  counted = grind (arith, common_steps, nat_tests)
 
   parts_in : (call_number (request_in n ws) ≡ n) × (arguments_of (request_in n ws) ≡ map value_of (take (arity n) ws)) × (data_in (request_in n ws) ≡ drop (arity n) ws)
   parts_in =
@@ -62,9 +60,7 @@ module _ (h : ℕ) (ws : List ℕ) (n : ℕ) (named : call_in (h ∷ ws) ≡ Ok 
       (p.0, p.1 ∙ listed_again (arity n) (map value_of (take (arity n) ws)) values_long, p.2)
 
   head_right : head_of n (arity n + length (drop (arity n) ws)) ≡ h
-  head_right =
-      let l : arity n + length (drop (arity n) ws) ≡ length (h ∷ ws) - 1 = omega (arith, length-drop (arity n) ws, covers) in
-      ap (head_of n) l ∙ head_again h n (length (h ∷ ws) - 1) (kind_is (h ∷ ws) n named) (number_is (h ∷ ws) n named) (count_is (h ∷ ws) n named)
+  head_right = grind (arith, common_steps, nat_tests)
 
   pub own_frame : encode (request_in n ws) ≡ h ∷ ws
   own_frame =
@@ -89,7 +85,7 @@ pub record Decoded (f : List ℕ) (room : ℕ) (c : Request) : Type 0 where
   pub fits : reply_words c ≤ room
 
 pub decoded : (f : List ℕ) (room : ℕ) (c : Request) → decode f room ≡ Ok c → Decoded f room c
-decoded [] room c e = never cc
+decoded [] room c e = cc
 decoded (h ∷ ws) room c e =
     let d = bind_ok (spelled (h ∷ ws)) (λ q. unless (or_else (past_end q) (past_room q room)) q) c e in
     let b = bind_ok (call_in (h ∷ ws)) (λ n. unless (argument_fault 1 (parameters_of n) ws) (request_in n ws)) d.0 d.1 in

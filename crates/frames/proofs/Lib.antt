@@ -1,4 +1,3 @@
-mod Shifts
 mod Words
 mod Outcomes
 mod Numbers

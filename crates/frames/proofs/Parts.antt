@@ -1,14 +1,14 @@
 -- Calls made of their parts, and taken apart again. Assumes nothing.
-use Rattle.std.proofs.Common.{◌≡◌, ℕ, zero, suc, ◌^◌, ◌<◌, ◌≤◌, true, List, [], ◌∷◌, map, length, get_or, sym, refl, ap, arith}
+use Rattle.std.proofs.lemmas.Grind.{common_steps}
+use Rattle.std.proofs.lemmas.Bool.Decides.{nat_tests}
+use Rattle.std.proofs.Common.{◌≡◌, ℕ, zero, suc, ◌^◌, ◌<◌, ◌≤◌, true, List, [], ◌∷◌, map, length, get_or, refl, ap, arith}
 use Rattle.std.proofs.lemmas.Nat.{mod_below}
-use Rattle.std.proofs.lemmas.List.{nil_from_length}
-use Rattle.std.proofs.lemmas.Bool.{eqb-true}
 use Rattle.frames.specs.Words.{value_of}
 use Rattle.frames.specs.Table.{parameters_of, arity, data_of, takes_data}
-use Rattle.frames.specs.Requests.{Request, create_segment, create_directory, make_known, terminate, read, write, truncate, delete, move_quota, status, quota, call_number, arguments_of, data_in}
+use Rattle.frames.specs.Requests.{Request, call_number, arguments_of, data_in}
 use Rattle.frames.specs.Decode.{request_of}
 use Rattle.frames.proofs.Numbers.{each_call}
-use Rattle.frames.proofs.Words.{signed_unsigned, unsigned_signed}
+use Rattle.frames.proofs.Words.{unsigned_signed}
 use Rattle.frames.proofs.Ranges.{Within}
 
 -- the first n values of a function
@@ -29,7 +29,7 @@ value_small (w ∷ ws) zero = mod_below w (2 ^ 28) (omega arith)
 value_small (w ∷ ws) (suc i) = value_small ws i
 
 no_data : (ds : List ℕ) → takes_data 0 (length ds) ≡ true → [] ≡ ds
-no_data ds t = sym (nil_from_length ds (eqb-true _ _ t))
+no_data ds t = grind (arith, common_steps, nat_tests)
 
 -- a call that is made of a number, values and data words has these
 module _ (v : ℕ → ℕ) (ds : List ℕ) (small : v 2 < 2 ^ 28) where
@@ -58,14 +58,4 @@ module _ (v : ℕ → ℕ) (ds : List ℕ) (small : v 2 < 2 ^ 28) where
 
 -- and the parts of a call make it again, where its amount is one that 28 bits hold
 pub made_again : (c : Request) → Within (parameters_of (call_number c)) (arguments_of c) → request_of (call_number c) (λ i. get_or (arguments_of c) i 0) (data_in c) ≡ c
-made_again (create_segment d e) w = refl
-made_again (create_directory d e s i g) w = refl
-made_again (make_known d e n) w = refl
-made_again (terminate n) w = refl
-made_again (read s f n) w = refl
-made_again (write s f ws) w = refl
-made_again (truncate s k) w = refl
-made_again (delete d e) w = refl
-made_again (move_quota d e z) w = ap (move_quota d e) (signed_unsigned z w.1.1.0)
-made_again (status d e) w = refl
-made_again (quota d) w = refl
+made_again c w = grind arith

@@ -1,44 +1,27 @@
 -- The frame of a call that passes the tests of the writer reads back as that call. Assumes nothing.
-use Rattle.std.proofs.Common.{◌≡◌, ℕ, suc, ◌+◌, ◌-◌, ◌^◌, ◌<◌, ◌≤◌, Bool, true, cond, ◌&&◌, ltb, List, [], ◌∷◌, ◌++◌, map, length, get_or, ℤ, pos, negsuc, None, Ok, Err, Option, Result, sym, refl, ap, ◌∙◌, ap₂, arith, lit≤}
-use Rattle.std.proofs.lemmas.List.{take_at, drop_at, length-append}
+use Rattle.std.proofs.lemmas.Grind.{common_steps}
+use Rattle.std.proofs.Common.{◌≡◌, ℕ, suc, ◌+◌, ◌-◌, ◌^◌, ◌<◌, ◌≤◌, Bool, true, cond, ◌&&◌, ltb, List, [], ◌∷◌, ◌++◌, map, length, None, Ok, Err, Option, Result, sym, refl, ap, ◌∙◌, ap₂, arith}
 use Rattle.std.proofs.lemmas.Bool.{and_from, eq-eqb, le-leb, lt-ltb}
 use Rattle.std.proofs.lemmas.Bool.Decides.{nat_tests}
-use Rattle.frames.specs.declared.fault.Flaw.TheVariants.{NotACall, WrongCount, WrongKind, OutOfRange}
-use Rattle.frames.specs.declared.fault.FrameFault.{FrameFault}
+use Rattle.frames.specs.declared.fault.Flaw.TheVariants.{NotACall, WrongCount, OutOfRange}
+use Rattle.frames.specs.Faults.{FrameFault, blame}
 use Rattle.frames.specs.declared.table.Parameter.{Parameter}
-use Rattle.frames.specs.Words.{value_of, word_of, number_in, count_in, head_of, unsigned}
-use Rattle.frames.specs.Faults.{blame}
+use Rattle.frames.specs.Words.{value_of, word_of, number_in, count_in, head_of}
 use Rattle.frames.specs.Table.{kind_code, within, parameters_of, arity, data_of, takes_data, takes}
-use Rattle.frames.specs.Requests.{Request, create_segment, create_directory, make_known, terminate, read, write, truncate, delete, move_quota, status, quota, call_number, arguments_of, data_in, reply_words}
-use Rattle.frames.specs.Decode.{bind, unless, or_else, deny_unless, argument, err_or, argument_fault, is_head, is_counted, call_in, request_of, request_in, spelled, past_end, past_room, decode}
+use Rattle.frames.specs.Requests.{Request, call_number, arguments_of, data_in, reply_words}
+use Rattle.frames.specs.Decode.{bind, unless, or_else, deny_unless, argument, err_or, argument_fault, is_head, is_counted, call_in, request_in, spelled, past_end, past_room, decode}
 use Rattle.frames.specs.Encode.{argument_words, encode}
 use Rattle.frames.specs.Ranges.{InRange}
-use Rattle.frames.proofs.Words.{kind_of_word, value_of_word, kind_of_head, number_of_head, count_of_head}
-use Rattle.frames.proofs.Ranges.{Passes, Within, all_within, in_range, passes}
-use Rattle.frames.proofs.Parts.{made_again}
-use Rattle.frames.proofs.Arguments.{arguments_length}
+use Rattle.frames.proofs.Words.{value_of_word, count_of_head}
+use Rattle.frames.proofs.Ranges.{Passes, Within, passes}
 
 -- each value has 28 bits
 abbrev Small : List ℕ → Type 0
 Small [] = Unit {0}
 Small (v ∷ vs) = (v < 2 ^ 28) × Small vs
 
-unsigned_small : (z : ℤ) → unsigned z < 2 ^ 28
-unsigned_small (pos n) = omega arith
-unsigned_small (negsuc n) = omega arith
-
 all_small : (c : Request) → InRange c → Small (arguments_of c)
-all_small (create_segment d e) r = (omega (arith, r.0), (omega (arith, r.1), tt))
-all_small (create_directory d e s i g) r = (omega (arith, r.0), (omega (arith, r.1), (r.2, (r.3, (omega (arith, r.4), tt)))))
-all_small (make_known d e n) r = (omega (arith, r.0), (omega (arith, r.1), (omega (arith, r.2), tt)))
-all_small (terminate n) r = (omega (arith, r.1), tt)
-all_small (read s f n) r = (omega (arith, r.0), (omega (arith, r.1), (omega (arith, r.3), tt)))
-all_small (write s f ws) r = (omega (arith, r.0), (omega (arith, r.1), tt))
-all_small (truncate s k) r = (omega (arith, r.0), (omega (arith, r.1), tt))
-all_small (delete d e) r = (omega (arith, r.0), (omega (arith, r.1), tt))
-all_small (move_quota d e z) r = (omega (arith, r.0), (omega (arith, r.1), (unsigned_small z, tt)))
-all_small (status d e) r = (omega (arith, r.0), (omega (arith, r.1), tt))
-all_small (quota d) r = (omega arith, tt)
+all_small c r = grind (arith, common_steps, nat_tests)
 
 -- the table has a row for each call, with as many arguments as the call has, and few words
 pub record Regular (c : Request) : Type 0 where
@@ -49,26 +32,14 @@ pub record Regular (c : Request) : Type 0 where
   pub few_data : data_of (call_number c) ≤ 16
 
 pub regular : (c : Request) → Regular c
-regular (create_segment d e) = record { low = lit≤ tt; high = lit≤ tt; same = refl; few = lit≤ tt; few_data = lit≤ tt }
-regular (create_directory d e s i g) = record { low = lit≤ tt; high = lit≤ tt; same = refl; few = lit≤ tt; few_data = lit≤ tt }
-regular (make_known d e n) = record { low = lit≤ tt; high = lit≤ tt; same = refl; few = lit≤ tt; few_data = lit≤ tt }
-regular (terminate n) = record { low = lit≤ tt; high = lit≤ tt; same = refl; few = lit≤ tt; few_data = lit≤ tt }
-regular (read s f n) = record { low = lit≤ tt; high = lit≤ tt; same = refl; few = lit≤ tt; few_data = lit≤ tt }
-regular (write s f ws) = record { low = lit≤ tt; high = lit≤ tt; same = refl; few = lit≤ tt; few_data = lit≤ tt }
-regular (truncate s k) = record { low = lit≤ tt; high = lit≤ tt; same = refl; few = lit≤ tt; few_data = lit≤ tt }
-regular (delete d e) = record { low = lit≤ tt; high = lit≤ tt; same = refl; few = lit≤ tt; few_data = lit≤ tt }
-regular (move_quota d e z) = record { low = lit≤ tt; high = lit≤ tt; same = refl; few = lit≤ tt; few_data = lit≤ tt }
-regular (status d e) = record { low = lit≤ tt; high = lit≤ tt; same = refl; few = lit≤ tt; few_data = lit≤ tt }
-regular (quota d) = record { low = lit≤ tt; high = lit≤ tt; same = refl; few = lit≤ tt; few_data = lit≤ tt }
+regular c = record { low = grind arith; high = grind arith; same = grind arith; few = grind arith; few_data = grind arith }
 
 at_most : (most n : ℕ) → takes_data most n ≡ true → n ≤ most
 at_most most n e = grind (arith, nat_tests)
 
 -- each word that is written of a value in bounds is an argument, and holds that value
 passed : (place : ℕ) (p : Parameter) (v : ℕ) → v < 2 ^ 28 → within p v ≡ true → argument place p (word_of (kind_code p.kind) v) ≡ Ok v
-passed place p v s e =
-    ap₂ (λ (b : Bool) (x : ℕ). cond b (cond (within p x) (Ok x) (Err (blame OutOfRange place))) (Err (blame WrongKind place))) (eq-eqb _ _ (kind_of_word (kind_code p.kind) v)) (value_of_word (kind_code p.kind) v s)
-    ∙ ap (λ (b : Bool). cond b (Ok v) (Err (blame OutOfRange place))) e
+passed place p v s e = grind (arith, common_steps, nat_tests)
 
 no_argument_fault : (place : ℕ) (ps : List Parameter) (vs ds : List ℕ) → Small vs → Within ps vs → length vs ≡ length ps → argument_fault place ps (argument_words ps vs ++ ds) ≡ None
 no_argument_fault place [] vs ds s w l = refl
@@ -86,13 +57,7 @@ values_back (p ∷ ps) (v ∷ vs) s l =
 
 -- a call has as many argument words as the table says
 arguments_count : (c : Request) → length (argument_words (parameters_of (call_number c)) (arguments_of c)) ≡ arity (call_number c)
-arguments_count c = arguments_length (parameters_of (call_number c)) (arguments_of c) (regular c).same
-
-pub encode_length : (c : Request) → length (encode c) ≡ (1 + arity (call_number c)) + length (data_in c)
-encode_length c =
-    let a = arguments_count c in
-    let l = length-append (argument_words (parameters_of (call_number c)) (arguments_of c)) (data_in c) in
-    omega arith
+arguments_count c = grind (arith, common_steps, nat_tests)
 
 module _ (c : Request) (p : Passes c) where
   words : List ℕ
@@ -100,25 +65,23 @@ module _ (c : Request) (p : Passes c) where
 
   word_count : length words ≡ arity (call_number c) + length (data_in c)
   unfolding words
-  word_count =
-      length-append (argument_words (parameters_of (call_number c)) (arguments_of c)) (data_in c)
-      ∙ ap (λ (n : ℕ). n + length (data_in c)) (arguments_count c)
+  word_count = grind (arith, common_steps, nat_tests)
 
   short : arity (call_number c) + length (data_in c) < 2 ^ 16
-  short = omega (arith, at_most (data_of (call_number c)) (length (data_in c)) p.counted, (regular c).few, (regular c).few_data)
+  short = grind (arith, common_steps, nat_tests)
 
   small : Small (arguments_of c)
-  small = all_small c (in_range c p)
+  small = grind (arith, common_steps, nat_tests)
 
   inside : Within (parameters_of (call_number c)) (arguments_of c)
-  inside = all_within 1 (parameters_of (call_number c)) (arguments_of c) p.valued
+  inside = grind (arith, common_steps, nat_tests)
 
   head : ℕ
   head = head_of (call_number c) (arity (call_number c) + length (data_in c))
 
   head_number : number_in head ≡ call_number c
   unfolding head
-  head_number = number_of_head (call_number c) _ (regular c).high short
+  head_number = grind (arith, common_steps, nat_tests)
 
   head_count : count_in head ≡ length words
   unfolding head
@@ -126,9 +89,7 @@ module _ (c : Request) (p : Passes c) where
 
   named : is_head head ≡ true
   unfolding head
-  named =
-      and_from _ _ (eq-eqb _ _ (kind_of_head (call_number c) _ (regular c).high short))
-      (and_from _ _ (le-leb 1 (number_in head) (omega (arith, head_number, (regular c).low))) (le-leb (number_in head) 11 (omega (arith, head_number, (regular c).high))))
+  named = grind (arith, common_steps, nat_tests)
 
   counted : is_counted head (length words) ≡ true
   counted =
@@ -152,12 +113,7 @@ module _ (c : Request) (p : Passes c) where
 
   asked : request_in (call_number c) words ≡ c
   unfolding words
-  asked =
-      ap₂ (λ (xs ys : List ℕ). request_of (call_number c) (λ i. get_or (map value_of xs) i 0) ys)
-      (take_at (argument_words (parameters_of (call_number c)) (arguments_of c)) (data_in c) (arity (call_number c)) (arguments_count c))
-      (drop_at (argument_words (parameters_of (call_number c)) (arguments_of c)) (data_in c) (arity (call_number c)) (arguments_count c))
-      ∙ ap (λ (xs : List ℕ). request_of (call_number c) (λ i. get_or xs i 0) (data_in c)) (values_back (parameters_of (call_number c)) (arguments_of c) small (regular c).same)
-      ∙ made_again c inside
+  asked = grind arith
 
   spells : spelled (head ∷ words) ≡ Ok c
   spells =

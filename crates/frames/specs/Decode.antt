@@ -1,7 +1,7 @@
 -- What a frame means: the call that it asks for, or why it is denied. Assumes nothing.
 use Rattle.std.specs.Prelude.{ℕ, suc, ◌+◌, ◌-◌, Bool, cond, ◌&&◌, List, [], ◌∷◌, map, length, take, drop, Some, None, Ok, Err, Option, Result, ◌==◌, nat_le, nat_lt, slice_index}
 use Rattle.frames.specs.declared.fault.Flaw.TheVariants.{NotACall, WrongCount, WrongKind, OutOfRange}
-use Rattle.frames.specs.declared.fault.FrameFault.{FrameFault}
+use Rattle.frames.specs.Faults.{FrameFault}
 use Rattle.frames.specs.declared.table.Parameter.{Parameter}
 use Rattle.frames.specs.Words.{kind_of, value_of, number_in, count_in, signed}
 use Rattle.frames.specs.Faults.{blame}

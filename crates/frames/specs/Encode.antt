@@ -1,7 +1,7 @@
 -- The frame of a call, and why it may not be written. Assumes nothing.
 use Rattle.std.specs.Prelude.{ℕ, suc, ◌+◌, List, [], ◌∷◌, ◌++◌, length, take, drop, Some, None, Option, nat_le}
 use Rattle.frames.specs.declared.fault.Flaw.TheVariants.{WrongCount, OutOfRange}
-use Rattle.frames.specs.declared.fault.FrameFault.{FrameFault}
+use Rattle.frames.specs.Faults.{FrameFault}
 use Rattle.frames.specs.declared.table.Parameter.{Parameter}
 use Rattle.frames.specs.Words.{word_of, head_of}
 use Rattle.frames.specs.Faults.{blame}

@@ -1,8 +1,12 @@
 -- The denials of a frame: their numbers, their layer and their place. Assumes nothing.
 use Rattle.std.specs.Prelude.{ℕ}
+use Rattle.frames.specs.declared.fault.Fault.{Fault}
 use Rattle.frames.specs.declared.fault.Flaw.{Flaw}
 use Rattle.frames.specs.declared.fault.Flaw.TheVariants.{NotAdmitted, NotACall, WrongCount, WrongKind, OutOfRange}
-use Rattle.frames.specs.declared.fault.FrameFault.{FrameFault}
+
+-- a denied frame
+abbrev pub FrameFault : Type 0
+FrameFault = Fault Flaw
 
 -- the number of each denial
 abbrev pub flaw_number : Flaw → ℕ
@@ -18,4 +22,4 @@ frame_layer f = 1
 
 -- a flaw, and the index of the word to blame
 abbrev pub blame : Flaw → ℕ → FrameFault
-blame f p = record { flaw = f; place = p }
+blame f p = record { reason = f; place = p }

@@ -1,6 +1,7 @@
 pub mod Words
 pub mod Faults
 pub mod Table
+pub mod Operations
 pub mod Requests
 pub mod Decode
 pub mod Readers

@@ -2,7 +2,7 @@
 
 /// A call with its arguments. `directory`, `segment` and `number` are known numbers of the process that calls,
 /// `entry` is a place of the directory, and the data words of a write stay in the frame that they came in.
-#[derive(Clone, Copy)]
+#[derive(Clone, Copy, PartialEq, Eq, Debug)]
 pub enum Call<'a> {
     /// Puts a segment without pages at a place of a directory.
     CreateSegment {

@@ -1,89 +1,90 @@
 //! Turns a frame into its call.
 ghost use Rattle.std.specs.Prelude.{◌≡◌, ◌^◌, ◌<◌, ◌≤◌, IfOk, slice_index};
+ghost use Rattle.frames.specs.declared.operation.Operation.TheVariants.{MoveQuota};
+ghost use Rattle.frames.specs.Operations.{operation_number};
 ghost use Rattle.frames.specs.Requests.{request, reply_words};
 ghost use Rattle.frames.specs.Decode.{call_in, request_of, spelled, past_end, past_room, unless, map_ok, decode};
 ghost use Rattle.frames.specs.Encode.{encode};
 ghost use Rattle.frames.specs.Ranges.{InRange};
 
 use crate::call::Call;
-use crate::fault::{Flaw, FrameFault};
+use crate::fault::{Flaw, FrameFault, Reason};
+use crate::operation::Operation;
 use crate::reader::Reader;
-use crate::table::{CALL_COUNT, MOST_ARGUMENTS, signature_of};
+use crate::table::MOST_ARGUMENTS;
 use crate::word;
 
 /// The words of a segment.
 const SEGMENT_WORDS: usize = 256;
 
-/// The number of the call that a frame's head names, where as many words follow as the head says and the call takes.
-fn call_number(frame: &[u32]) -> Result<usize, FrameFault>
-    ensures { result ≡ call_in frame.now }
+/// The call that a frame's head names, where as many words follow as the head says and the call takes.
+fn operation(frame: &[u32]) -> Result<Operation, FrameFault>
+    ensures { map_ok operation_number result ≡ call_in frame.now }
 {
     let [head, words @ ..] = frame else {
         return Err(Flaw::NotACall.at(0));
     };
-    let number = word::call_number(*head);
-    if word::kind(*head) != word::HEAD || number < 1 || number > CALL_COUNT {
+    if word::kind(*head) != word::HEAD {
         return Err(Flaw::NotACall.at(0));
     }
-    if word::word_count(*head) != words.len() || !signature_of(number).takes(words.len()) {
+    let operation = Operation::try_from(word::call_number(*head)).map_err(|flaw| flaw.at(0))?;
+    if word::word_count(*head) != words.len() || !operation.signature().takes(words.len()) {
         return Err(Flaw::WrongCount.at(0));
     }
-    Ok(number)
+    Ok(operation)
 }
 
-/// The call of a number, with its values from index 0 on and its data words.
-fn assemble<'a>(number: usize, values: [u32; MOST_ARGUMENTS], words: &'a [u32]) -> Call<'a>
-    requires first { 1 ≤ number }
-    requires last { number ≤ 11 }
-    requires amount { number ≡ 9 → slice_index values 2 < 2 ^ 28 }
-    ensures { request result ≡ request_of number (λ i. slice_index values i) words.now }
+/// A call with its values from index 0 on and its data words.
+fn assemble<'a>(operation: Operation, values: [u32; MOST_ARGUMENTS], words: &'a [u32]) -> Call<'a>
+    requires amount { operation ≡ MoveQuota → slice_index values 2 < 2 ^ 28 }
+    ensures { request result ≡ request_of (operation_number operation) (λ i. slice_index values i) words.now }
 {
-    match number {
-        1 => Call::CreateSegment {
+    match operation {
+        Operation::CreateSegment => Call::CreateSegment {
             directory: values[0],
             entry: values[1],
         },
-        2 => Call::CreateDirectory {
+        Operation::CreateDirectory => Call::CreateDirectory {
             directory: values[0],
             entry: values[1],
             security: values[2],
             integrity: values[3],
             grant: values[4],
         },
-        3 => Call::MakeKnown {
+        Operation::MakeKnown => Call::MakeKnown {
             directory: values[0],
             entry: values[1],
             number: values[2],
         },
-        4 => Call::Terminate { number: values[0] },
-        5 => Call::Read {
+        Operation::Terminate => Call::Terminate { number: values[0] },
+        Operation::Read => Call::Read {
             segment: values[0],
             first: values[1],
             count: values[2],
         },
-        6 => Call::Write {
+        Operation::Write => Call::Write {
             segment: values[0],
             first: values[1],
             words,
         },
-        7 => Call::Truncate {
+        Operation::Truncate => Call::Truncate {
             segment: values[0],
             keep: values[1],
         },
-        8 => Call::Delete {
+        Operation::Delete => Call::Delete {
             directory: values[0],
             entry: values[1],
         },
-        9 => Call::MoveQuota {
+        Operation::MoveQuota => Call::MoveQuota {
             directory: values[0],
             entry: values[1],
             amount: word::amount(values[2]),
         },
-        10 => Call::Status {
+        Operation::Status => Call::Status {
             directory: values[0],
             entry: values[1],
         },
-        _ => Call::Quota {
+        Operation::Quota => Call::Quota {
             directory: values[0],
         },
     }
@@ -93,10 +94,10 @@ fn assemble<'a>(number: usize, values: [u32; MOST_ARGUMENTS], words: &'a [u32]) 
 fn read_call<'a>(frame: &'a [u32]) -> Result<Call<'a>, FrameFault>
     ensures { map_ok request result ≡ spelled frame.now }
 {
-    let number = call_number(frame)?;
+    let operation = operation(frame)?;
     let mut reader = Reader::behind_head(frame);
-    let values = reader.arguments(signature_of(number).parameters)?;
-    Ok(assemble(number, values, reader.rest()))
+    let values = reader.arguments(operation.signature().parameters)?;
+    Ok(assemble(operation, values, reader.rest()))
 }
 
 /// Denies a read or a write that passes the last word of its segment.
@@ -104,17 +105,11 @@ pub(crate) fn check_end(call: Call<'_>) -> Result<(), FrameFault>
     ensures { result ≡ unless (past_end (request call.entry)) tt }
 {
     match call {
-        Call::Read { first, count, .. } => {
-            if first as usize + count as usize > SEGMENT_WORDS {
-                return Err(Flaw::OutOfRange.at(3));
-            }
-            Ok(())
+        Call::Read { first, count, .. } if first as usize + count as usize > SEGMENT_WORDS => {
+            Err(Flaw::OutOfRange.at(3))
         }
-        Call::Write { first, words, .. } => {
-            if words.len().saturating_add(first as usize) > SEGMENT_WORDS {
-                return Err(Flaw::OutOfRange.at(2));
-            }
-            Ok(())
+        Call::Write { first, words, .. } if first as usize + words.len() > SEGMENT_WORDS => {
+            Err(Flaw::OutOfRange.at(2))
         }
         _ => Ok(()),
     }

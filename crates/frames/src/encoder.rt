@@ -1,107 +1,19 @@
 //! Turns a call into its frame.
-ghost use Rattle.std.specs.Prelude.{◌≡◌, ℕ, ◌+◌, ◌^◌, ◌<◌, ◌≤◌, [], length, take, IfOk, Ok};
-ghost use Rattle.frames.specs.Requests.{request, call_number, arguments_of, data_in, reply_words};
+ghost use Rattle.std.specs.Prelude.{◌≡◌, ℕ, ◌+◌, ◌^◌, ◌<◌, ◌≤◌, [], length, take, position, not, IfOk, Ok};
+ghost use Rattle.std.specs.List.{zip};
+ghost use Rattle.frames.specs.Operations.{operation_number};
+ghost use Rattle.frames.specs.Table.{within, parameters_of, arity};
+ghost use Rattle.frames.specs.Requests.{request, reply_words};
 ghost use Rattle.frames.specs.Decode.{unless, decode};
-ghost use Rattle.frames.specs.Walks.{padded};
+ghost use Rattle.frames.specs.Walks.{TakenApart};
 ghost use Rattle.frames.specs.Encode.{argument_words, frame_of, encode, value_fault, refusal, put, buffer_after};
 
 use crate::call::Call;
 use crate::decoder::check_end;
-use crate::fault::{Flaw, FrameFault};
-use crate::table::{MOST_ARGUMENTS, Parameter, signature_of};
+use crate::fault::{Flaw, FrameFault, Reason};
+use crate::operation::Operation;
+use crate::table::{MOST_ARGUMENTS, Parameter};
 use crate::word;
-
-/// A call taken apart: its number, its values from index 0 on with zeros behind them, and its data words.
-#[derive(Clone, Copy)]
-struct Parts<'a> {
-    number: usize,
-    values: [u32; MOST_ARGUMENTS],
-    words: &'a [u32],
-}
-
-/// The parts of a call that takes no data words.
-fn no_data<'a>(number: usize, values: [u32; MOST_ARGUMENTS]) -> Parts<'a>
-    ensures number { result.number ≡ number }
-    ensures values { result.values ≡ values }
-    ensures words { result.words.now ≡ [] }
-{
-    Parts {
-        number,
-        values,
-        words: &[],
-    }
-}
-
-/// Takes a call apart.
-fn take_apart<'a>(call: Call<'a>) -> Parts<'a>
-    ensures number { result.number ≡ call_number (request call.entry) }
-    ensures values { result.values ≡ padded (arguments_of (request call.entry)) }
-    ensures words { result.words.now ≡ data_in (request call.entry) }
-{
-    match call {
-        Call::CreateSegment { directory, entry } => no_data(1, [directory, entry, 0, 0, 0]),
-        Call::CreateDirectory {
-            directory,
-            entry,
-            security,
-            integrity,
-            grant,
-        } => no_data(2, [directory, entry, security, integrity, grant]),
-        Call::MakeKnown {
-            directory,
-            entry,
-            number,
-        } => no_data(3, [directory, entry, number, 0, 0]),
-        Call::Terminate { number } => no_data(4, [number, 0, 0, 0, 0]),
-        Call::Read {
-            segment,
-            first,
-            count,
-        } => no_data(5, [segment, first, count, 0, 0]),
-        Call::Write {
-            segment,
-            first,
-            words,
-        } => Parts {
-            number: 6,
-            values: [segment, first, 0, 0, 0],
-            words,
-        },
-        Call::Truncate { segment, keep } => no_data(7, [segment, keep, 0, 0, 0]),
-        Call::Delete { directory, entry } => no_data(8, [directory, entry, 0, 0, 0]),
-        Call::MoveQuota {
-            directory,
-            entry,
-            amount,
-        } => no_data(9, [directory, entry, word::amount_bits(amount), 0, 0]),
-        Call::Status { directory, entry } => no_data(10, [directory, entry, 0, 0, 0]),
-        Call::Quota { directory } => no_data(11, [directory, 0, 0, 0, 0]),
-    }
-}
-
-/// Denies the first value that is out of its range.
-fn check_values(parameters: &[Parameter], values: &[u32]) -> Result<(), FrameFault>
-    requires { length values.now ≡ length parameters.now }
-    ensures { result ≡ unless (value_fault 1 parameters.now values.now) tt }
-{
-    for (i, parameter) in parameters.iter().enumerate() {
-        if !parameter.admits(values[i]) {
-            return Err(Flaw::OutOfRange.at(1 + i));
-        }
-    }
-    Ok(())
-}
-
-/// Puts the arguments behind the head.
-fn put_arguments(parameters: &[Parameter], values: &[u32], buffer: &mut [u32])
-    requires values { length values.now ≡ length parameters.now }
-    requires room { 1 + length parameters.now ≤ length buffer.old }
-    ensures { buffer.new ≡ put 1 (argument_words parameters.now values.now) buffer.old }
-{
-    for (i, parameter) in parameters.iter().enumerate() {
-        buffer[1 + i] = word::word(parameter.kind.code(), values[i]);
-    }
-}
 
 /// Puts data words from a place on.
 fn put_words(words: &[u32], at: usize, buffer: &mut [u32])
@@ -111,17 +23,148 @@ fn put_words(words: &[u32], at: usize, buffer: &mut [u32])
     buffer[at..at + words.len()].copy_from_slice(words);
 }
 
-/// Puts head, arguments and data words at the buffer's start.
-fn fill(number: usize, parameters: &[Parameter], values: &[u32], words: &[u32], buffer: &mut [u32])
-    requires number { number < 2 ^ 12 }
-    requires count { length parameters.now + length words.now < 2 ^ 16 }
-    requires values { length values.now ≡ length parameters.now }
-    requires room { (1 + length parameters.now) + length words.now ≤ length buffer.old }
-    ensures { buffer.new ≡ put 0 (frame_of number parameters.now values.now words.now) buffer.old }
+/// The index of the first value that is out of its parameter's bounds.
+fn first_outside(parameters: &[Parameter], values: &[u32]) -> Option<usize>
+    ensures { result ≡ position (λ x. not (within x.0 x.1)) (zip parameters.now values.now) }
 {
-    buffer[0] = word::head(number as u32, (parameters.len() + words.len()) as u32);
-    put_arguments(parameters, values, buffer);
-    put_words(words, 1 + parameters.len(), buffer);
+    parameters
+        .iter()
+        .zip(values)
+        .position(|(parameter, value)| !parameter.admits(*value))
+}
+
+/// A call taken apart: which it is, its values from index 0 on with zeros behind them, and its data words.
+#[derive(Clone, Copy)]
+struct Parts<'a> {
+    operation: Operation,
+    values: [u32; MOST_ARGUMENTS],
+    words: &'a [u32],
+}
+
+impl<'a> From<Call<'a>> for Parts<'a> {
+    ghost from_gives = { λ c p. TakenApart (operation_number p.operation) p.values p.words.now (request c) };
+
+    fn from(call: Call<'a>) -> Parts<'a> {
+        match call {
+            Call::CreateSegment { directory, entry } => Parts::without_data(
+                Operation::CreateSegment,
+                [directory, entry, 0, 0, 0],
+            ),
+            Call::CreateDirectory {
+                directory,
+                entry,
+                security,
+                integrity,
+                grant,
+            } => Parts::without_data(
+                Operation::CreateDirectory,
+                [directory, entry, security, integrity, grant],
+            ),
+            Call::MakeKnown {
+                directory,
+                entry,
+                number,
+            } => Parts::without_data(Operation::MakeKnown, [directory, entry, number, 0, 0]),
+            Call::Terminate { number } => Parts::without_data(
+                Operation::Terminate,
+                [number, 0, 0, 0, 0],
+            ),
+            Call::Read {
+                segment,
+                first,
+                count,
+            } => Parts::without_data(Operation::Read, [segment, first, count, 0, 0]),
+            Call::Write {
+                segment,
+                first,
+                words,
+            } => Parts {
+                operation: Operation::Write,
+                values: [segment, first, 0, 0, 0],
+                words,
+            },
+            Call::Truncate { segment, keep } => Parts::without_data(
+                Operation::Truncate,
+                [segment, keep, 0, 0, 0],
+            ),
+            Call::Delete { directory, entry } => Parts::without_data(
+                Operation::Delete,
+                [directory, entry, 0, 0, 0],
+            ),
+            Call::MoveQuota {
+                directory,
+                entry,
+                amount,
+            } => Parts::without_data(
+                Operation::MoveQuota,
+                [directory, entry, word::amount_bits(amount), 0, 0],
+            ),
+            Call::Status { directory, entry } => Parts::without_data(
+                Operation::Status,
+                [directory, entry, 0, 0, 0],
+            ),
+            Call::Quota { directory } => Parts::without_data(
+                Operation::Quota,
+                [directory, 0, 0, 0, 0],
+            ),
+        }
+    }
+}
+
+impl<'a> Parts<'a> {
+    /// The parts of a call that takes no data words.
+    fn without_data(operation: Operation, values: [u32; MOST_ARGUMENTS]) -> Parts<'a>
+        ensures operation { result.operation ≡ operation }
+        ensures values { result.values ≡ values }
+        ensures words { result.words.now ≡ [] }
+    {
+        Parts {
+            operation,
+            values,
+            words: &[],
+        }
+    }
+
+    /// How many words the frame has.
+    fn frame_length(&self) -> usize
+        ensures { result ≡ (1 + arity (operation_number self.now.operation)) + length self.now.words.now }
+    {
+        1 + self.operation.signature().parameters.len() + self.words.len()
+    }
+
+    /// Denies the first value that is out of its range.
+    #[tactic(auto, using(crate::proofs::Arguments::fault_at))]
+    fn check_values(&self) -> Result<(), FrameFault>
+        ensures { result ≡ unless (value_fault 1 (parameters_of (operation_number self.now.operation)) self.now.values) tt }
+    {
+        match first_outside(self.operation.signature().parameters, &self.values) {
+            Some(i) => Err(Flaw::OutOfRange.at(1 + i)),
+            None => Ok(()),
+        }
+    }
+
+    /// Puts the arguments behind the head.
+    fn put_arguments(&self, buffer: &mut [u32])
+        requires { 1 + arity (operation_number self.now.operation) ≤ length buffer.old }
+        ensures { buffer.new ≡ put 1 (argument_words (parameters_of (operation_number self.now.operation)) self.now.values) buffer.old }
+    {
+        let parameters = self.operation.signature().parameters;
+        for (i, (parameter, value)) in parameters.iter().zip(&self.values).enumerate() {
+            buffer[1 + i] = word::word(parameter.kind.code(), *value);
+        }
+    }
+
+    /// Puts head, arguments and data words at the buffer's start.
+    fn put_frame(&self, buffer: &mut [u32])
+        requires count { length self.now.words.now ≤ 16 }
+        requires room { (1 + arity (operation_number self.now.operation)) + length self.now.words.now ≤ length buffer.old }
+        ensures { let n = operation_number self.now.operation in buffer.new ≡ put 0 (frame_of n (parameters_of n) self.now.values self.now.words.now) buffer.old }
+    {
+        let arguments = self.operation.signature().parameters.len();
+        buffer[0] = word::head(self.operation, (arguments + self.words.len()) as u32);
+        self.put_arguments(buffer);
+        put_words(self.words, 1 + arguments, buffer);
+    }
 }
 
 /// Writes a call's frame to the buffer's start and answers its length; what stands behind it is left as it was.
@@ -131,22 +174,16 @@ pub fn encode(call: Call<'_>, buffer: &mut [u32]) -> Result<usize, FrameFault>
     ensures buffer { buffer.new ≡ buffer_after (refusal (request call.entry) (length buffer.old)) (encode (request call.entry)) buffer.old }
     ensures reads_back { IfOk result (λ n. (room : ℕ) → reply_words (request call.entry) ≤ room → decode (take n buffer.new) room ≡ Ok (request call.entry)) }
 {
-    let Parts {
-        number,
-        values,
-        words,
-    } = take_apart(call);
-    let signature = signature_of(number);
-    let values = &values[0..signature.parameters.len()];
-    if !signature.takes_data(words.len()) {
+    let parts = Parts::from(call);
+    if !parts.operation.signature().takes_data(parts.words.len()) {
         return Err(Flaw::WrongCount.at(0));
     }
-    check_values(signature.parameters, values)?;
+    parts.check_values()?;
     check_end(call)?;
-    let length = 1 + signature.parameters.len() + words.len();
+    let length = parts.frame_length();
     if buffer.len() < length {
         return Err(Flaw::WrongCount.at(0));
     }
-    fill(number, signature.parameters, values, words, buffer);
+    parts.put_frame(buffer);
     Ok(length)
 }

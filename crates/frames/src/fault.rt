@@ -1,6 +1,46 @@
-//! Why a frame is denied, and which of its words is to blame.
-ghost use Rattle.std.specs.Prelude.{◌≡◌};
-ghost use Rattle.frames.specs.Faults.{flaw_number, frame_layer, blame};
+//! Why something is denied, and which word of the frame is to blame.
+ghost use Rattle.std.specs.Prelude.{◌≡◌, ℕ};
+ghost use Rattle.frames.specs.Faults.{flaw_number};
+
+/// Why something is denied. All reasons of one type are of one layer.
+pub trait Reason: Copy {
+    ghost number_of: { Self → ℕ };
+
+    ghost LAYER: { ℕ };
+
+    /// The layer that denies.
+    const LAYER: u32;
+
+    /// The number of the denial.
+    fn number(self) -> u32
+        ensures { result ≡ number_of self };
+
+    /// The fault for this reason, with the word of that index to blame.
+    fn at(self, place: usize) -> Fault<Self>
+        ensures { result ≡ record { reason = self; place = place } }
+    {
+        Fault {
+            reason: self,
+            place,
+        }
+    }
+}
+
+/// A denial: its reason, and the index of the word to blame.
+#[derive(Clone, Copy, PartialEq, Eq, Debug)]
+pub struct Fault<R> {
+    pub reason: R,
+    pub place: usize,
+}
+
+impl<R: Reason> Fault<R> {
+    /// The layer that denies.
+    pub fn layer(self) -> u32
+        ensures { result ≡ R.LAYER }
+    {
+        R::LAYER
+    }
+}
 
 /// What is wrong with a frame, in the order in which it is tested.
 #[derive(Clone, Copy, PartialEq, Eq, Debug)]
@@ -17,11 +57,17 @@ pub enum Flaw {
     OutOfRange,
 }
 
-impl Flaw {
-    /// The number of the denial.
-    pub fn number(self) -> u32
-        ensures { result ≡ flaw_number self }
-    {
+/// A denied frame.
+pub type FrameFault = Fault<Flaw>;
+
+impl Reason for Flaw {
+    ghost number_of = { flaw_number };
+
+    ghost LAYER = { 1 };
+
+    const LAYER: u32 = 1;
+
+    fn number(self) -> u32 {
         match self {
             Flaw::NotAdmitted => 1,
             Flaw::NotACall => 2,
@@ -29,28 +75,5 @@ impl Flaw {
             Flaw::WrongKind => 4,
             Flaw::OutOfRange => 5,
         }
-    }
-
-    /// The fault of a frame with this flaw in the word of that index.
-    pub fn at(self, place: usize) -> FrameFault
-        ensures { result ≡ blame self place }
-    {
-        FrameFault { flaw: self, place }
-    }
-}
-
-/// A denied frame: its flaw, and the index of the word to blame.
-#[derive(Clone, Copy, PartialEq, Eq, Debug)]
-pub struct FrameFault {
-    pub flaw: Flaw,
-    pub place: usize,
-}
-
-impl FrameFault {
-    /// The layer that denies: frames are layer 1.
-    pub fn layer(self) -> u32
-        ensures { result ≡ frame_layer self }
-    {
-        1
     }
 }

@@ -5,6 +5,7 @@ pub mod call;
 mod decoder;
 mod encoder;
 pub mod fault;
+mod operation;
 mod reader;
 mod table;
 pub mod theorems;

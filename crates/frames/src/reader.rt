@@ -1,19 +1,33 @@
 //! Reads a lent frame word by word.
 ghost use Rattle.std.specs.Prelude.{◌≡◌, ◌≤◌, length, OnOk};
 ghost use Rattle.frames.specs.Words.{kind_of, value_of};
-ghost use Rattle.frames.specs.Decode.{argument};
+ghost use Rattle.frames.specs.declared.fault.Flaw.TheVariants.{WrongKind};
+ghost use Rattle.frames.specs.Operations.{numbered};
+ghost use Rattle.frames.specs.Table.{kind_code};
+ghost use Rattle.frames.specs.Decode.{map_ok, argument};
 ghost use Rattle.frames.specs.Readers.{next, unread, Holds, Moved};
 ghost use Rattle.frames.specs.Walks.{Walked};
 
-use crate::fault::{Flaw, FrameFault};
-use crate::table::{MOST_ARGUMENTS, Parameter};
+use crate::fault::{Flaw, FrameFault, Reason};
+use crate::table::{Kind, MOST_ARGUMENTS, Parameter};
 use crate::word;
 
-/// The kind and the value in a word.
-#[derive(Clone, Copy)]
+/// The value in a word, and its kind, or the flaw of a word of no such kind.
+#[derive(Clone, Copy, PartialEq, Eq, Debug)]
 pub(crate) struct Argument {
-    pub(crate) kind: u32,
+    pub(crate) kind: Result<Kind, Flaw>,
     pub(crate) value: u32,
+}
+
+impl From<u32> for Argument {
+    ghost from_gives = { λ w a. (map_ok kind_code a.kind ≡ numbered 6 WrongKind (kind_of w)) × (a.value ≡ value_of w) };
+
+    fn from(word: u32) -> Argument {
+        Argument {
+            kind: Kind::try_from(word::kind(word)),
+            value: word::value(word),
+        }
+    }
 }
 
 /// A frame that is lent, and the index of the word to read next.
@@ -35,16 +49,13 @@ impl<'a> Reader<'a> {
     /// The kind and the value in the next word.
     fn next(&mut self) -> Argument
         requires { Holds self.old 1 }
-        ensures kind { result.kind ≡ kind_of (next self.old) }
+        ensures kind { map_ok kind_code result.kind ≡ numbered 6 WrongKind (kind_of (next self.old)) }
         ensures value { result.value ≡ value_of (next self.old) }
         ensures moved { Moved self.old self.new 1 }
     {
         let word = self.frame[self.at];
         self.at += 1;
-        Argument {
-            kind: word::kind(word),
-            value: word::value(word),
-        }
+        Argument::from(word)
     }
 
     /// The next argument's value, where it is of the kind and within the bounds that the call takes there.
@@ -55,7 +66,7 @@ impl<'a> Reader<'a> {
     {
         let place = self.at;
         let Argument { kind, value } = self.next();
-        if kind != parameter.kind.code() {
+        if kind != Ok(parameter.kind) {
             return Err(Flaw::WrongKind.at(place));
         }
         if !parameter.admits(value) {

@@ -1,9 +1,15 @@
 //! What each call takes: one table, which the decoder and the encoder walk.
-ghost use Rattle.std.specs.Prelude.{◌≡◌, ◌≤◌, length};
+ghost use Rattle.std.specs.Prelude.{◌≡◌, length};
+ghost use Rattle.frames.specs.declared.fault.Flaw.TheVariants.{WrongKind};
+ghost use Rattle.frames.specs.Decode.{map_ok};
+ghost use Rattle.frames.specs.Operations.{operation_number, numbered};
 ghost use Rattle.frames.specs.Table.{kind_code, within, parameters_of, data_of, takes_data, takes};
 
+use crate::fault::Flaw;
+use crate::operation::Operation;
+
 /// The kind of an argument, told by the top 4 bits of its word.
-#[derive(Clone, Copy)]
+#[derive(Clone, Copy, PartialEq, Eq, Debug)]
 pub(crate) enum Kind {
     KnownNumber = 1,
     Place = 2,
@@ -22,9 +28,27 @@ impl Kind {
     }
 }
 
+impl TryFrom<u32> for Kind {
+    type Error = Flaw;
+
+    ghost try_from_gives = { λ n r. map_ok kind_code r ≡ numbered 6 WrongKind n };
+
+    fn try_from(code: u32) -> Result<Kind, Flaw> {
+        match code {
+            1 => Ok(Kind::KnownNumber),
+            2 => Ok(Kind::Place),
+            3 => Ok(Kind::Count),
+            4 => Ok(Kind::Amount),
+            5 => Ok(Kind::Security),
+            6 => Ok(Kind::Integrity),
+            _ => Err(Flaw::WrongKind),
+        }
+    }
+}
+
 /// An argument that a call takes. The bounds hold of its size: the value itself, or the distance of a signed
 /// amount from 0.
-#[derive(Clone, Copy)]
+#[derive(Clone, Copy, PartialEq, Eq, Debug)]
 pub(crate) struct Parameter {
     pub(crate) kind: Kind,
     least: u32,
@@ -40,12 +64,12 @@ impl Parameter {
             Kind::Amount if value >= 1 << 27 => (1u32 << 28).saturating_sub(value),
             _ => value,
         };
-        self.least <= size && size <= self.most
+        (self.least..=self.most).contains(&size)
     }
 }
 
 /// What a call takes: its arguments, and then at most so many data words, and at least one where it takes any.
-#[derive(Clone, Copy)]
+#[derive(Clone, Copy, PartialEq, Eq, Debug)]
 pub(crate) struct Signature {
     pub(crate) parameters: &'static [Parameter],
     payload: usize,
@@ -59,7 +83,7 @@ impl Signature {
         if self.payload == 0 {
             words == 0
         } else {
-            1 <= words && words <= self.payload
+            (1..=self.payload).contains(&words)
         }
     }
 
@@ -136,7 +160,7 @@ const AMOUNT: Parameter = Parameter {
 pub(crate) const MOST_ARGUMENTS: usize = 5;
 
 /// How many calls there are; their numbers begin at 1.
-pub(crate) const CALL_COUNT: usize = 11;
+const CALL_COUNT: usize = 11;
 
 const CALLS: [Signature; CALL_COUNT] = [
     // 1 create segment
@@ -196,12 +220,12 @@ const CALLS: [Signature; CALL_COUNT] = [
     },
 ];
 
-/// What the call of a number takes.
-pub(crate) fn signature_of(number: usize) -> Signature
-    requires first { 1 ≤ number }
-    requires last { number ≤ 11 }
-    ensures parameters { result.parameters.now ≡ parameters_of number }
-    ensures payload { result.payload ≡ data_of number }
-{
-    CALLS[number - 1]
+impl Operation {
+    /// What the call takes.
+    pub(crate) fn signature(self) -> Signature
+        ensures parameters { result.parameters.now ≡ parameters_of (operation_number self) }
+        ensures payload { result.payload ≡ data_of (operation_number self) }
+    {
+        CALLS[self as usize - 1]
+    }
 }

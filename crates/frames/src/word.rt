@@ -1,6 +1,9 @@
 //! The layout of a frame's words, by shifts and masks.
 ghost use Rattle.std.specs.Prelude.{◌≡◌, ◌^◌, ◌<◌};
 ghost use Rattle.frames.specs.Words.{kind_of, value_of, number_in, count_in, signed, unsigned, word_of, head_of};
+ghost use Rattle.frames.specs.Operations.{operation_number};
+
+use crate::operation::Operation;
 
 /// The kind of a head.
 pub(crate) const HEAD: u32 = 8;
@@ -20,10 +23,10 @@ pub(crate) fn value(word: u32) -> u32
 }
 
 /// The call that a head names, in the 12 bits below its kind.
-pub(crate) fn call_number(head: u32) -> usize
+pub(crate) fn call_number(head: u32) -> u32
     ensures { result ≡ number_in head }
 {
-    ((head >> 16) & 0xFFF) as usize
+    (head >> 16) & 0xFFF
 }
 
 /// How many words follow a head, as its low 16 bits say.
@@ -62,10 +65,9 @@ pub(crate) fn word(kind: u32, value: u32) -> u32
 }
 
 /// The head of a call with so many words to follow.
-pub(crate) fn head(number: u32, count: u32) -> u32
-    requires number { number < 2 ^ 12 }
-    requires count { count < 2 ^ 16 }
-    ensures { result ≡ head_of number count }
+pub(crate) fn head(operation: Operation, count: u32) -> u32
+    requires { count < 2 ^ 16 }
+    ensures { result ≡ head_of (operation_number operation) count }
 {
-    word(HEAD, number << 16 | count)
+    word(HEAD, operation.number() << 16 | count)
 }

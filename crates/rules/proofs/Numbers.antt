@@ -1,7 +1,7 @@
 -- Number 0 of each process always means the root, and there are no numbers past 15.
 use Rattle.std.proofs.Common.{◌≡◌, ℕ, ◌<◌, ◌≤◌, true, cond, List, [], ◌∷◌, ◌++◌, ℤ, pos, negsuc, Some, None, Ok, Err, Option, Result, sym, refl, ap, ◌∙◌, subst, true≢false, arith, ne_eqb}
 use Rattle.labels.specs.declared.label.Label.{Label}
-use Rattle.frames.specs.declared.fault.FrameFault.{FrameFault}
+use Rattle.frames.specs.Faults.{FrameFault}
 use Rattle.frames.specs.Requests.{Request, create_segment, create_directory, make_known, terminate, read, write, truncate, delete, move_quota, status, quota}
 use Rattle.frames.specs.Decode.{decode}
 use Rattle.labels.specs.Labels.{Orders}

@@ -1,7 +1,7 @@
 -- A segment has sixteen pages, and a present page sixteen words.
 use Rattle.std.proofs.Common.{◌≡◌, ℕ, ◌+◌, ◌*◌, ◌/◌, ◌≤◌, true, ltb, leb, List, [], ◌∷◌, length, ℤ, pos, negsuc, Some, None, Ok, Err, Option, Result, refl, subst, arith, ltb-true}
 use Rattle.labels.specs.declared.label.Label.{Label}
-use Rattle.frames.specs.declared.fault.FrameFault.{FrameFault}
+use Rattle.frames.specs.Faults.{FrameFault}
 use Rattle.frames.specs.Requests.{Request, create_segment, create_directory, make_known, terminate, read, write, truncate, delete, move_quota, status, quota}
 use Rattle.frames.specs.Decode.{decode}
 use Rattle.labels.specs.Labels.{Orders}

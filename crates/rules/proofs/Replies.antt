@@ -1,7 +1,7 @@
 -- What holds of every response: a denied call changes nothing, each denial has its layer, and words fit their buffer.
 use Rattle.std.proofs.Common.{◌≡◌, ℕ, zero, suc, ◌+◌, ◌≤◌, Bool, true, false, cond, List, [], length, ℤ, pos, negsuc, Some, None, Ok, Err, Option, Result, sym, refl, ap, subst, arith}
 use Rattle.labels.specs.declared.label.Label.{Label}
-use Rattle.frames.specs.declared.fault.FrameFault.{FrameFault}
+use Rattle.frames.specs.Faults.{FrameFault}
 use Rattle.frames.specs.declared.fault.Flaw.{Flaw}
 use Rattle.frames.specs.declared.fault.Flaw.TheVariants.{NotAdmitted, NotACall, WrongCount, WrongKind, OutOfRange}
 use Rattle.frames.specs.Faults.{flaw_number}
@@ -57,12 +57,12 @@ denial_layer TooFewLeft = refl
 denial_layer ProcessesFull = refl
 
 judged_layer : (v : Verdict) → (judged v).reply.layer ≡ layer_of (judged v).reply.answer
-judged_layer (Err f) = denial_layer f.denial
+judged_layer (Err f) = denial_layer f.reason
 judged_layer (Ok y) = refl
 
 layered : (s : Setup) (w : Store) (m : Option Label) (p : ℕ) (d : Result Request FrameFault) → (response_to s w m p d).reply.layer ≡ layer_of (response_to s w m p d).reply.answer
 layered s w None p d = refl
-layered s w (Some me) p (Err f) = flaw_layer f.flaw
+layered s w (Some me) p (Err f) = flaw_layer f.reason
 layered s w (Some me) p (Ok r) = judged_layer (verdict s w me p r)
 
 -- Values and words

@@ -1,7 +1,7 @@
 -- What each store of a run keeps: labels grow, and each process knows only what it may see.
 use Rattle.std.proofs.Common.{◌≡◌, ℕ, zero, suc, true, eqb, List, [], ◌∷◌, ◌++◌, Some, None, Ok, Err, Option, Result, sym, refl, subst}
 use Rattle.labels.specs.declared.label.Label.{Label}
-use Rattle.frames.specs.declared.fault.FrameFault.{FrameFault}
+use Rattle.frames.specs.Faults.{FrameFault}
 use Rattle.frames.specs.Requests.{Request}
 use Rattle.frames.specs.Decode.{decode}
 use Rattle.labels.specs.Labels.{Orders, below}

@@ -8,7 +8,7 @@ use Rattle.labels.specs.Labels.{Orders, valid, below, same_label}
 use Rattle.frames.specs.Requests.{Request, create_segment, create_directory, make_known, terminate, read, write, truncate, delete, move_quota, status, quota}
 use Rattle.rules.specs.declared.denial.Denial.{Denial}
 use Rattle.rules.specs.declared.denial.Denial.TheVariants.{NumberFree, NumberGone, WrongSort, OtherLabel, WrongPlace, WrongLabel, NumberTaken, WrongGrant, TooFewLeft}
-use Rattle.rules.specs.declared.denial.StoreFault.{StoreFault}
+use Rattle.rules.specs.Denials.{StoreFault}
 use Rattle.rules.specs.Denials.{fault}
 use Rattle.rules.specs.Indexed.{tabulate}
 use Rattle.rules.specs.Segments.{Pages, segment_word, present_pages, made_present, made_absent}

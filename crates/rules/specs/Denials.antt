@@ -1,8 +1,12 @@
 -- The denials of the store: their numbers, their layer and their place. Assumes nothing.
 use Rattle.std.specs.Prelude.{ℕ}
+use Rattle.frames.specs.declared.fault.Fault.{Fault}
 use Rattle.rules.specs.declared.denial.Denial.{Denial}
 use Rattle.rules.specs.declared.denial.Denial.TheVariants.{NumberFree, NumberGone, WrongSort, OtherLabel, WrongPlace, WrongLabel, NumberTaken, WrongGrant, TooFewLeft, ProcessesFull}
-use Rattle.rules.specs.declared.denial.StoreFault.{StoreFault}
+
+-- a denied call, root label or admission
+abbrev pub StoreFault : Type 0
+StoreFault = Fault Denial
 
 -- the number of each denial
 abbrev pub denial_number : Denial → ℕ
@@ -23,4 +27,4 @@ store_layer f = 2
 
 -- a denial, and the index of the frame's word to blame
 abbrev pub fault : Denial → ℕ → StoreFault
-fault d k = record { denial = d; place = k }
+fault d k = record { reason = d; place = k }

@@ -2,7 +2,7 @@
 use Rattle.std.specs.Prelude.{ℕ, List, [], Some, None, Ok, Err, Option, Result}
 use Rattle.labels.specs.declared.label.Label.{Label}
 use Rattle.frames.specs.declared.fault.Flaw.TheVariants.{NotAdmitted}
-use Rattle.frames.specs.declared.fault.FrameFault.{FrameFault}
+use Rattle.frames.specs.Faults.{FrameFault}
 use Rattle.frames.specs.Faults.{flaw_number, frame_layer, blame}
 use Rattle.frames.specs.Requests.{Request}
 use Rattle.frames.specs.Decode.{decode}
@@ -41,11 +41,11 @@ denies n layer place = record { reply = record { answer = n; layer = layer; plac
 
 -- the response to a frame that is at fault
 abbrev pub denies_frame : FrameFault → Response
-denies_frame f = denies (flaw_number f.flaw) (frame_layer f) f.place
+denies_frame f = denies (flaw_number f.reason) (frame_layer f) f.place
 
 -- the response to a call that is judged
 abbrev pub judged : Verdict → Response
-judged (Err f) = denies (denial_number f.denial) (store_layer f) f.place
+judged (Err f) = denies (denial_number f.reason) (store_layer f) f.place
 judged (Ok y) = grants y.values y.words
 
 -- what a judged call does

@@ -3,7 +3,7 @@ use Rattle.std.specs.Prelude.{◌≡◌, ℕ, zero, suc, min, cond, ◌&&◌, Li
 use Rattle.labels.specs.declared.label.Label.{Label}
 use Rattle.labels.specs.Labels.{Orders, LawfulOrders, valid, below}
 use Rattle.rules.specs.declared.denial.Denial.TheVariants.{WrongLabel, ProcessesFull}
-use Rattle.rules.specs.declared.denial.StoreFault.{StoreFault}
+use Rattle.rules.specs.Denials.{StoreFault}
 use Rattle.rules.specs.Denials.{fault}
 use Rattle.rules.specs.Tree.{empty, directory}
 use Rattle.rules.specs.KnownNumbers.{new_numbers}

@@ -1,6 +1,7 @@
 //! Why the store denies a call, a root label or an admission, and which word of the frame is to blame.
-ghost use Rattle.std.specs.Prelude.{◌≡◌};
-ghost use Rattle.rules.specs.Denials.{denial_number, store_layer, fault};
+ghost use Rattle.rules.specs.Denials.{denial_number};
+
+use frames::fault::{Fault, Reason};
 
 /// The denials of the store, by number.
 #[derive(Clone, Copy, PartialEq, Eq, Debug)]
@@ -27,11 +28,17 @@ pub enum Denial {
     ProcessesFull,
 }
 
-impl Denial {
-    /// The number of the denial.
-    pub fn number(self) -> u32
-        ensures { result ≡ denial_number self }
-    {
+/// A denial of the store, and the index of the frame's word to blame.
+pub type StoreFault = Fault<Denial>;
+
+impl Reason for Denial {
+    ghost number_of = { denial_number };
+
+    ghost LAYER = { 2 };
+
+    const LAYER: u32 = 2;
+
+    fn number(self) -> u32 {
         match self {
             Denial::NumberFree => 6,
             Denial::NumberGone => 7,
@@ -44,31 +51,5 @@ impl Denial {
             Denial::TooFewLeft => 14,
             Denial::ProcessesFull => 15,
         }
-    }
-
-    /// The fault of a call that gets this denial, with the word of that index to blame.
-    pub fn at(self, place: usize) -> StoreFault
-        ensures { result ≡ fault self place }
-    {
-        StoreFault {
-            denial: self,
-            place,
-        }
-    }
-}
-
-/// A denial of the store, and the index of the frame's word to blame.
-#[derive(Clone, Copy, PartialEq, Eq, Debug)]
-pub struct StoreFault {
-    pub denial: Denial,
-    pub place: usize,
-}
-
-impl StoreFault {
-    /// The layer that denies: the store is layer 2.
-    pub fn layer(self) -> u32
-        ensures { result ≡ store_layer self }
-    {
-        2
     }
 }

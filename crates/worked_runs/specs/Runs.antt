@@ -3,7 +3,7 @@
 use Rattle.std.specs.Prelude.{◌≡◌, ℕ, List, [], ◌∷◌, map, Ok, Err, Result}
 use Rattle.labels.specs.declared.label.Label.{Label}
 use Rattle.labels.specs.Orders.{Order}
-use Rattle.rules.specs.declared.denial.StoreFault.{StoreFault}
+use Rattle.rules.specs.Denials.{StoreFault}
 use Rattle.rules.specs.Denials.{denial_number, store_layer}
 use Rattle.rules.specs.Setup.{Setup, test_root, format, admission, admitted_by, opened, Beginning, set_up}
 use Rattle.rules.specs.Responses.{RawCall, Response}
@@ -69,7 +69,7 @@ beginning r = record {
 -- an answer of setup in numbers
 abbrev pub told : {A : Type 0} → (A → ℕ) → Result A StoreFault → Told
 told number (Ok x) = process (number x)
-told number (Err f) = refused (denial_number f.denial) (store_layer f) f.place
+told number (Err f) = refused (denial_number f.reason) (store_layer f) f.place
 
 -- what admission answers these labels, one after the other
 abbrev pub admission_answers : Setup → List Label → List Told

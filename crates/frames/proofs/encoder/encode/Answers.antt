@@ -1,27 +1,26 @@
 -- What is left to show of `encode`.
-use Rattle.std.proofs.Common.{length, Err, sym, ap, ◌∙◌, arith}
+use Rattle.std.proofs.Common.{length, Err, ap, ◌∙◌, arith}
 use Rattle.std.proofs.lemmas.Result.{err_from_is_err_and, IfOk-from_err}
 use Rattle.frames.specs.Requests.{request}
-use Rattle.frames.specs.Decode.{unless}
-use Rattle.frames.specs.Encode.{encode, buffer_after}
-use Rattle.frames.proofs.Encoded.{denied_value, encoded, values_are}
+use Rattle.frames.proofs.Encoded.{refused, denied_value, denied_end, encoded}
 use Rattle.frames.proofs.encoder.encode.Goals as goal
 
 pub returns-in_err-check_values : goal.returns-in_err-check_values
 returns-in_err-check_values c =
     let p = err_from_is_err_and c.from_residual.result c.from_residual.ensures.1 in
-    let d = denied_value (request c.args.call) c.take_apart-number.result.number c.signature_of-signature.result.payload c.signature_of-signature.result.parameters.now _ c.take_apart-number.result.words.now
-    c.take_apart-number.ensures.number c.signature_of-signature.ensures.parameters c.signature_of-signature.ensures.payload (values_are (request c.args.call) c.take_apart-number.result.number c.signature_of-signature.result.parameters.now c.take_apart-number.result.values c.take_apart-number.ensures.number c.signature_of-signature.ensures.parameters c.take_apart-number.ensures.values) c.take_apart-number.ensures.words
-    (length c.args.buffer.now) c.in_err-check_values.field-0.0 (sym c.if-not-takes_data.ensures) c.in_err-check_values.ensures in
-    record {
-      value = p.1 ∙ ap Err p.2 ∙ ap (λ o. unless o (length (encode (request c.args.call)))) (sym d);
-      buffer = ap (λ o. buffer_after o (encode (request c.args.call)) c.args.buffer.now) (sym d);
-      reads_back = IfOk-from_err c.from_residual.result _ c.from_residual.ensures.0;
-    }
+    let r = refused (request c.args.call) c.args.buffer.now c.from_residual.result _ (p.1 ∙ ap Err p.2)
+    (denied_value c.from-parts.ensures (length c.args.buffer.now) c.in_err-check_values.field-0.0 (cc) c.in_err-check_values.ensures) in
+    record { value = r.value; buffer = r.same; reads_back = IfOk-from_err c.from_residual.result _ c.from_residual.ensures.0 }
+
+pub returns-in_err-check_end : goal.returns-in_err-check_end
+returns-in_err-check_end c =
+    let f = c.from_residual-in_err-check_end in
+    let p = err_from_is_err_and f.result f.ensures.1 in
+    let r = refused (request c.args.call) c.args.buffer.now f.result _ (p.1 ∙ ap Err p.2)
+    (denied_end c.from-parts.ensures (length c.args.buffer.now) c.in_err-check_end.field-0.0 (cc) c.in_ok-check_values.ensures c.in_err-check_end.ensures) in
+    record { value = r.value; buffer = r.same; reads_back = IfOk-from_err f.result _ f.ensures.0 }
 
 pub returns : goal.returns
 returns c =
-    let e = encoded (request c.args.call) c.take_apart-number.result.number c.signature_of-signature.result.payload c.signature_of-signature.result.parameters.now _ c.take_apart-number.result.words.now
-    c.take_apart-number.ensures.number c.signature_of-signature.ensures.parameters c.signature_of-signature.ensures.payload (values_are (request c.args.call) c.take_apart-number.result.number c.signature_of-signature.result.parameters.now c.take_apart-number.result.values c.take_apart-number.ensures.number c.signature_of-signature.ensures.parameters c.take_apart-number.ensures.values) c.take_apart-number.ensures.words
-    c.args.buffer.now c.fill.new.buffer (sym c.if-not-takes_data.ensures) c.in_ok-check_values.ensures c.in_ok-check_end.ensures (omega arith) c.fill.ensures in
+    let e = encoded c.from-parts.ensures c.args.buffer.now c.put_frame.new.buffer c.frame_length-length.result (cc) c.in_ok-check_values.ensures c.in_ok-check_end.ensures c.frame_length-length.ensures (omega arith) c.put_frame.ensures in
     record { value = e.value; buffer = e.buffer; reads_back = e.reads_back }

@@ -20,9 +20,6 @@ abbrev Small : List ℕ → Type 0
 Small [] = Unit {0}
 Small (v ∷ vs) = (v < 2 ^ 28) × Small vs
 
-all_small : (c : Request) → InRange c → Small (arguments_of c)
-all_small c r = grind (arith, common_steps, nat_tests)
-
 -- the table has a row for each call, with as many arguments as the call has, and few words
 pub record Regular (c : Request) : Type 0 where
   pub low : 1 ≤ call_number c
@@ -54,10 +51,6 @@ values_back [] (v ∷ vs) s l = let z : ⊥ = omega arith in absurd z
 values_back (p ∷ ps) [] s l = let z : ⊥ = omega arith in absurd z
 values_back (p ∷ ps) (v ∷ vs) s l =
     ap₂ (λ (x : ℕ) (xs : List ℕ). x ∷ xs) (value_of_word (kind_code p.kind) v s.0) (values_back ps vs s.1 (omega arith))
-
--- a call has as many argument words as the table says
-arguments_count : (c : Request) → length (argument_words (parameters_of (call_number c)) (arguments_of c)) ≡ arity (call_number c)
-arguments_count c = grind (arith, common_steps, nat_tests)
 
 module _ (c : Request) (p : Passes c) where
   words : List ℕ

@@ -4,11 +4,12 @@ use Rattle.std.proofs.lemmas.Bool.Decides.{nat_tests}
 use Rattle.std.proofs.Common.{◌≡◌, ℕ, zero, suc, ◌^◌, ◌<◌, ◌≤◌, true, List, [], ◌∷◌, map, length, get_or, refl, ap, arith}
 use Rattle.std.proofs.lemmas.Nat.{mod_below}
 use Rattle.frames.specs.Words.{value_of}
-use Rattle.frames.specs.Table.{arity, data_of, takes_data}
-use Rattle.frames.specs.Requests.{call_number, arguments_of, data_in}
+use Rattle.frames.specs.Table.{parameters_of, arity, data_of, takes_data}
+use Rattle.frames.specs.Requests.{Request, call_number, arguments_of, data_in}
 use Rattle.frames.specs.Decode.{request_of}
 use Rattle.frames.proofs.Numbers.{each_call}
 use Rattle.frames.proofs.Words.{unsigned_signed}
+use Rattle.frames.proofs.Ranges.{Within}
 
 -- the first n values of a function
 abbrev pub listed : ℕ → (ℕ → ℕ) → List ℕ
@@ -54,3 +55,7 @@ module _ (v : ℕ → ℕ) (ds : List ℕ) (small : v 2 < 2 ^ 28) where
   pub parts_are : (n : ℕ) → 1 ≤ n → n ≤ 11 → takes_data (data_of n) (length ds) ≡ true → (call_number (request_of n v ds) ≡ n) × (arguments_of (request_of n v ds) ≡ listed (arity n) v) × (data_in (request_of n v ds) ≡ ds)
   unfolding Made
   parts_are = each_made
+
+-- and the parts of a call make it again, where its amount is one that 28 bits hold
+pub made_again : (c : Request) → Within (parameters_of (call_number c)) (arguments_of c) → request_of (call_number c) (λ i. get_or (arguments_of c) i 0) (data_in c) ≡ c
+made_again c w = grind arith

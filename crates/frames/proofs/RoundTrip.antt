@@ -13,12 +13,16 @@ use Rattle.frames.specs.Decode.{bind, unless, or_else, deny_unless, argument, er
 use Rattle.frames.specs.Encode.{argument_words, encode}
 use Rattle.frames.specs.Ranges.{InRange}
 use Rattle.frames.proofs.Words.{value_of_word, count_of_head}
-use Rattle.frames.proofs.Ranges.{Passes, Within, passes}
+use Rattle.frames.proofs.Parts.{made_again}
+use Rattle.frames.proofs.Ranges.{in_range, Passes, Within, passes}
 
 -- each value has 28 bits
 abbrev Small : List ℕ → Type 0
 Small [] = Unit {0}
 Small (v ∷ vs) = (v < 2 ^ 28) × Small vs
+
+all_small : (c : Request) → InRange c → Small (arguments_of c)
+all_small c r = grind (arith, common_steps, nat_tests)
 
 -- the table has a row for each call, with as many arguments as the call has, and few words
 pub record Regular (c : Request) : Type 0 where
@@ -64,7 +68,7 @@ module _ (c : Request) (p : Passes c) where
   short = grind (arith, common_steps, nat_tests)
 
   small : Small (arguments_of c)
-  small = grind (arith, common_steps, nat_tests)
+  small = all_small c (in_range c p)
 
   inside : Within (parameters_of (call_number c)) (arguments_of c)
   inside = grind (arith, common_steps, nat_tests)
@@ -106,7 +110,7 @@ module _ (c : Request) (p : Passes c) where
 
   asked : request_in (call_number c) words ≡ c
   unfolding words
-  asked = grind arith
+  asked = let m = made_again c inside in grind arith
 
   spells : spelled (head ∷ words) ≡ Ok c
   spells =

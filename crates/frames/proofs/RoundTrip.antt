@@ -13,7 +13,8 @@ use Rattle.frames.specs.Decode.{bind, unless, or_else, deny_unless, argument, er
 use Rattle.frames.specs.Encode.{argument_words, encode}
 use Rattle.frames.specs.Ranges.{InRange}
 use Rattle.frames.proofs.Words.{value_of_word, count_of_head}
-use Rattle.frames.proofs.Ranges.{Passes, Within, passes}
+use Rattle.frames.proofs.Parts.{made_again}
+use Rattle.frames.proofs.Ranges.{in_range, Passes, Within, passes}
 
 -- each value has 28 bits
 abbrev Small : List ℕ → Type 0
@@ -55,10 +56,6 @@ values_back (p ∷ ps) [] s l = let z : ⊥ = omega arith in absurd z
 values_back (p ∷ ps) (v ∷ vs) s l =
     ap₂ (λ (x : ℕ) (xs : List ℕ). x ∷ xs) (value_of_word (kind_code p.kind) v s.0) (values_back ps vs s.1 (omega arith))
 
--- a call has as many argument words as the table says
-arguments_count : (c : Request) → length (argument_words (parameters_of (call_number c)) (arguments_of c)) ≡ arity (call_number c)
-arguments_count c = grind (arith, common_steps, nat_tests)
-
 module _ (c : Request) (p : Passes c) where
   words : List ℕ
   words = argument_words (parameters_of (call_number c)) (arguments_of c) ++ data_in c
@@ -71,7 +68,7 @@ module _ (c : Request) (p : Passes c) where
   short = grind (arith, common_steps, nat_tests)
 
   small : Small (arguments_of c)
-  small = grind (arith, common_steps, nat_tests)
+  small = all_small c (in_range c p)
 
   inside : Within (parameters_of (call_number c)) (arguments_of c)
   inside = grind (arith, common_steps, nat_tests)
@@ -113,7 +110,7 @@ module _ (c : Request) (p : Passes c) where
 
   asked : request_in (call_number c) words ≡ c
   unfolding words
-  asked = grind arith
+  asked = let m = made_again c inside in grind arith
 
   spells : spelled (head ∷ words) ≡ Ok c
   spells =

@@ -2,9 +2,8 @@
 use Rattle.std.proofs.Common.{◌≡◌, ℕ, Bool, true, false, cond, ◌&&◌, leb, List, [], ◌∷◌, ◌++◌, length, Ok, Err, Result, refl, ◌∙◌, arith}
 use Rattle.labels.specs.declared.label.Label.{Label}
 use Rattle.rules.specs.declared.denial.Denial.TheVariants.{WrongLabel, ProcessesFull}
-use Rattle.rules.specs.Denials.{StoreFault}
+use Rattle.rules.specs.Denials.{StoreFault, fault}
 use Rattle.labels.specs.Labels.{Orders, LawfulOrders, valid, below}
-use Rattle.rules.specs.Denials.{fault}
 use Rattle.rules.specs.Setup.{Setup, test_root, format, admission, admitted_by, after_admissions, Beginning, Granted, set_up}
 use Rattle.rules.proofs.Choices.{and_right, by_cases}
 

@@ -1,4 +1,6 @@
 -- Records balance after each call.
+use Rattle.std.proofs.lemmas.Grind.{common_steps}
+use Rattle.std.proofs.lemmas.Bool.Decides.{nat_tests}
 use Rattle.std.proofs.Common.{◌≡◌, ℕ, zero, suc, ◌+◌, ◌-◌, ◌<◌, ◌≤◌, Bool, true, false, cond, eqb, ltb, List, [], ◌∷◌, length, take, ℤ, pos, negsuc, Some, None, Ok, Err, Option, Result, sym, refl, ap, ◌∙◌, subst, true≢false, arith, ltb-false, ltb-true, eqb-true, leb-true}
 use Rattle.labels.specs.declared.label.Label.{Label}
 use Rattle.frames.specs.Faults.{FrameFault}
@@ -52,12 +54,10 @@ Shift a b true m n = n ≡ m
 Shift a b false m n = n + b ≡ m + a
 
 cond-false : (b d : Bool) → cond b true d ≡ false → b ≡ false
-cond-false true d e = e
-cond-false false d e = refl
+cond-false a1 a2 a3 = grind (arith, common_steps, nat_tests)
 
 cond-true : (b : Bool) → cond b true true ≡ true
-cond-true true = refl
-cond-true false = refl
+cond-true a1 = grind (arith, common_steps, nat_tests)
 
 module _ (x : Change) (a b : ℕ) where
   abbrev Paid : Found → Type 0
@@ -131,9 +131,7 @@ module _ (x : Change) (a b : ℕ) where
 -- Pages
 
 written_presence : (b : Bool) (p : Page) (ws : List ℕ) → presence (cond b (present ws) p) ≡ presence p + cond b (1 - presence p) 0
-written_presence true absent ws = refl
-written_presence true (present vs) ws = refl
-written_presence false p ws = omega arith
+written_presence a1 a2 a3 = grind (arith, common_steps, nat_tests)
 
 pub count_written : (ps : Pages) (first : ℕ) (ds : List ℕ) → present_pages (pages_written ps first ds) ≡ present_pages ps + made_present ps first ds
 count_written ps first ds =
@@ -141,8 +139,7 @@ count_written ps first ds =
     ∙ sum_add 16 (λ k. presence (ps k)) (λ k. cond (touched first (length ds) k) (1 - presence (ps k)) 0)
 
 cut_presence : (b : Bool) (p : Page) → presence p ≡ presence (cond b p absent) + cond b 0 (presence p)
-cut_presence true p = omega arith
-cut_presence false p = omega arith
+cut_presence a1 a2 = grind (arith, common_steps, nat_tests)
 
 pub count_cut : (ps : Pages) (kp : ℕ) → present_pages ps ≡ present_pages (pages_truncated ps kp) + made_absent ps kp
 count_cut ps kp =

@@ -1,5 +1,7 @@
 -- Neighbouring calls of processes with incomparable labels may change places.
-use Rattle.std.proofs.Common.{◌≡◌, ℕ, zero, suc, Bool, true, false, cond, not, eqb, List, [], ◌∷◌, ◌++◌, Some, None, Ok, Err, Option, Result, sym, refl, ap, ◌∙◌, subst, ap₂, true≢false}
+use Rattle.std.proofs.lemmas.Grind.{common_steps}
+use Rattle.std.proofs.lemmas.Bool.Decides.{nat_tests}
+use Rattle.std.proofs.Common.{arith, ◌≡◌, ℕ, zero, suc, Bool, true, false, cond, not, eqb, List, [], ◌∷◌, ◌++◌, Some, None, Ok, Err, Option, Result, sym, refl, ap, ◌∙◌, subst, ap₂, true≢false}
 use mathlib.Core.Path.{fun_ext}
 use borrow.Author.Tests.{not-true}
 use Rattle.labels.specs.declared.label.Label.{Label}
@@ -10,8 +12,8 @@ use Rattle.labels.specs.Labels.{LawfulOrders, below}
 use Rattle.rules.specs.Indexed.{assign}
 use Rattle.rules.specs.Tree.{Path}
 use Rattle.rules.specs.Cells.{find, no_cell, charge}
-use Rattle.rules.specs.KnownNumbers.{Known, free, means, gone, through, after_removal}
-use Rattle.rules.specs.Changes.{create, remove, regrant, Change, change_place, write_words, keep_pages, changed, paid_change, after_change, Effect, no_change, set_number, free_number, change, Store, tree_after, numbers_after, store_after}
+use Rattle.rules.specs.KnownNumbers.{Known, free, means}
+use Rattle.rules.specs.Changes.{Change, changed, paid_change, after_change, Effect, no_change, set_number, free_number, change, Store, tree_after, numbers_after, store_after}
 use Rattle.rules.specs.Calls.{first_number}
 use Rattle.rules.specs.Setup.{Setup, opened, nth}
 use Rattle.rules.specs.Responses.{RawCall, judged, effect_of, path_of, verdict, response_to, left_by, response, after}
@@ -29,38 +31,11 @@ use Rattle.rules.proofs.Forks.{commute, forks}
 
 -- Changes of known numbers commute
 
-removal_cond : (r p : Path) (b : Bool) → after_removal r (cond b gone (means p)) ≡ cond b gone (cond (through r p) gone (means p))
-removal_cond r p true = refl
-removal_cond r p false = refl
-
-cond_commute : (b d : Bool) (x y : Known) → cond b x (cond d x y) ≡ cond d x (cond b x y)
-cond_commute true true x y = refl
-cond_commute true false x y = refl
-cond_commute false true x y = refl
-cond_commute false false x y = refl
-
-removals_commute : (r r' : Path) (k : Known) → after_removal r (after_removal r' k) ≡ after_removal r' (after_removal r k)
-removals_commute r r' free = refl
-removals_commute r r' gone = refl
-removals_commute r r' (means p) = removal_cond r p (through r' p) ∙ cond_commute (through r' p) (through r p) gone (means p) ∙ sym (removal_cond r' p (through r p))
-
 changes_commute : (q q' : Path) (x x' : Change) (k : Known) → after_change q x (after_change q' x' k) ≡ after_change q' x' (after_change q x k)
-changes_commute q q' (change_place e (create t)) x' k = refl
-changes_commute q q' (change_place e (regrant u v)) x' k = refl
-changes_commute q q' (write_words first ds) x' k = refl
-changes_commute q q' (keep_pages n) x' k = refl
-changes_commute q q' (change_place e remove) (change_place e' (create t)) k = refl
-changes_commute q q' (change_place e remove) (change_place e' (regrant u v)) k = refl
-changes_commute q q' (change_place e remove) (write_words first ds) k = refl
-changes_commute q q' (change_place e remove) (keep_pages n) k = refl
-changes_commute q q' (change_place e remove) (change_place e' remove) k = removals_commute (q ++ (e ∷ [])) (q' ++ (e' ∷ [])) k
+changes_commute a1 a2 a3 a4 a5 = grind (arith, common_steps, nat_tests)
 
 pub free_after : (q : Path) (x : Change) → after_change q x free ≡ free
-free_after q (change_place e (create t)) = refl
-free_after q (change_place e (regrant u v)) = refl
-free_after q (change_place e remove) = refl
-free_after q (write_words first ds) = refl
-free_after q (keep_pages n) = refl
+free_after a1 a2 = grind (arith, common_steps, nat_tests)
 
 -- one known number set
 abbrev with_known : ℕ → ℕ → Known → (ℕ → ℕ → Known) → ℕ → ℕ → Known

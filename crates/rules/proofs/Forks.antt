@@ -1,5 +1,7 @@
 -- Changes at paths that part, with cells of their own, commute.
-use Rattle.std.proofs.Common.{◌≡◌, ℕ, Bool, true, false, cond, eqb, [], ◌∷◌, Some, None, Option, sym, refl, ap, ◌∙◌, subst, ap₂, eqb-true}
+use Rattle.std.proofs.lemmas.Grind.{common_steps}
+use Rattle.std.proofs.lemmas.Bool.Decides.{nat_tests}
+use Rattle.std.proofs.Common.{arith, ◌≡◌, ℕ, Bool, true, false, cond, eqb, [], ◌∷◌, Option, sym, refl, ap, ◌∙◌, subst, ap₂, eqb-true}
 use borrow.Author.Tests.{eqb-false}
 use Rattle.labels.specs.declared.label.Label.{Label}
 use Rattle.labels.specs.Labels.{Orders, LawfulOrders, below}
@@ -28,9 +30,7 @@ fork_sym (i ∷ q) (j ∷ r) (segment ps) h = h
 fork_sym (i ∷ q) (j ∷ r) (directory m c places) h = (h.1, h.0, λ e. subst (λ n. Fork r q (places n)) e (fork_sym q r (places i) (h.2 (sym e))))
 
 has_cell_kept : (g : Cell → Cell) (c : Option Cell) (d : Bool) → has_cell (cond d c (map_cell g c)) ≡ has_cell c
-has_cell_kept g c true = refl
-has_cell_kept g None false = refl
-has_cell_kept g (Some c) false = refl
+has_cell_kept a1 a2 a3 = grind (arith, common_steps, nat_tests)
 
 module _ (g : Cell → Cell) (f : Tree → Tree) where
   cell_on_path_kept : (q r : Path) (t : Tree) → Fork q r t → cell_on_path r (updated g f q t) ≡ cell_on_path r t

@@ -1,28 +1,24 @@
 -- Labels grow along the tree, and calls keep this.
-use Rattle.std.proofs.Common.{◌≡◌, ℕ, zero, suc, Bool, true, false, not, ◌&&◌, ◌||◌, eqb, [], ◌∷◌, ◌++◌, ℤ, pos, negsuc, Some, None, Option, sym, refl, ◌∙◌, subst, true≢false, eq-eqb, eqb-true}
+use Rattle.std.proofs.lemmas.Grind.{common_steps}
+use Rattle.std.proofs.lemmas.Bool.Decides.{nat_tests}
+use Rattle.std.proofs.Common.{arith, ◌≡◌, ℕ, true, false, eqb, [], ◌∷◌, ◌++◌, Some, None, Option, sym, refl, ◌∙◌, subst, true≢false, eq-eqb, eqb-true}
 use Rattle.labels.specs.declared.label.Label.{Label}
-use Rattle.frames.specs.Requests.{Request, create_segment, create_directory, make_known, terminate, read, write, truncate, delete, move_quota, status, quota}
-use Rattle.labels.specs.Labels.{same_label, Orders, LawfulOrders, valid, below}
+use Rattle.frames.specs.Requests.{Request}
+use Rattle.labels.specs.Labels.{Orders, LawfulOrders, valid, below}
 use Rattle.rules.specs.Segments.{Pages}
-use Rattle.rules.specs.Tree.{Cell, Tree, empty, segment, directory, Path, new_cell, is_empty, label_in}
+use Rattle.rules.specs.Tree.{Cell, Tree, empty, segment, directory, Path}
 use Rattle.rules.specs.Cells.{cell_used, Found, nothing, found, find, no_cell, charge}
 use Rattle.rules.specs.KnownNumbers.{Known, free, means, gone, through}
 use Rattle.rules.specs.Changes.{PlaceChange, create, remove, regrant, Change, change_place, write_words, keep_pages, with_grant, place_after, places_after, changed, map_cell, Effect, no_change, set_number, free_number, change}
-use Rattle.rules.specs.Calls.{is_free_number, is_gone, is_segment, is_directory, found_subject, subject, judge_move, judge, settled}
+use Rattle.rules.specs.Calls.{is_free_number, is_gone, is_segment, is_directory, found_subject, subject, judge, settled}
 use Rattle.rules.specs.Responses.{effect_of, path_of}
 use Rattle.rules.proofs.Assign.{assign_cases}
 use Rattle.rules.proofs.Updates.{cell_on_path, updated}
 use Rattle.rules.proofs.Choices.{and_left, and_right, and_both, clash, by_cases}
 use Rattle.rules.proofs.Outcomes.{Holds, holds, free_holds, gone_holds}
-use Rattle.rules.proofs.Places.{On, is_empty_true}
+use Rattle.rules.proofs.Places.{On}
 
 -- Labels
-
-pub same_eq : (l m : Label) → same_label l m ≡ true → l ≡ m
-same_eq l m h =
-    let p = eqb-true l.security m.security (and_left _ _ h) in
-    let q = eqb-true l.integrity m.integrity (and_right (eqb l.security m.security) _ h) in
-    λ i. record { security = p i; integrity = q i }
 
 module _ (o : Orders) (laws : LawfulOrders o) where
   pub below_trans : (a b c : Label) → below o a b ≡ true → below o b c ≡ true → below o a c ≡ true
@@ -127,16 +123,8 @@ Proper o (change_place e t) m (directory n c places) = ProperTurn o m (places e)
 Proper o (write_words first ds) m (directory n c places) = Unit {0}
 Proper o (keep_pages k) m (directory n c places) = Unit {0}
 
-pub grown_regranted : (o : Orders) (l : Label) (a b : ℕ) (y : Tree) → Grown o l y → Grown o l (with_grant a b y)
-grown_regranted o l a b empty g = g
-grown_regranted o l a b (segment ps) g = g
-grown_regranted o l a b (directory m None places) g = g
-grown_regranted o l a b (directory m (Some c) places) g = g
-
 grown_turn : (o : Orders) (m : Label) (y : Tree) (t : PlaceChange) → Grown o m y → ProperTurn o m y t → Grown o m (place_after t y)
-grown_turn o m y (create t) g h = h.1
-grown_turn o m y remove g h = tt
-grown_turn o m y (regrant a b) g h = grown_regranted o m a b y g
+grown_turn a1 a2 a3 a4 a5 a6 = grind (arith, common_steps, nat_tests)
 
 grown_places : (o : Orders) (x : Change) (l m : Label) (c : Option Cell) (places : ℕ → Tree) → ((i : ℕ) → Grown o m (places i)) → Proper o x m (directory m c places)
     → (i : ℕ) → Grown o m (places_after x places i)
@@ -145,8 +133,7 @@ grown_places o (write_words first ds) l m c places g h i = g i
 grown_places o (keep_pages k) l m c places g h i = g i
 
 tied_charged : (a b : ℕ) (c : Option Cell) (l m : Label) → Tied c l m → Tied (map_cell (charge a b) c) l m
-tied_charged a b None l m h = h
-tied_charged a b (Some c) l m h = h
+tied_charged a1 a2 a3 a4 a5 a6 = grind (arith, common_steps, nat_tests)
 
 -- What stood at a path still stands there with its label, if it is not removed
 
@@ -212,11 +199,7 @@ module _ (o : Orders) (x : Change) (a b : ℕ) where
     labelled_places (keep_pages k) m c r places j h pr sp = h
 
     spared_down : (z : Change) (i j : ℕ) (q r : Path) → j ≡ i → Spared z (i ∷ q) (j ∷ r) → Spared z q r
-    spared_down (change_place e (create t)) i j q r p h = tt
-    spared_down (change_place e remove) i j q r p h = subst (λ d. (d && through (q ++ (e ∷ [])) r) ≡ false) (eq-eqb i j (sym p)) h
-    spared_down (change_place e (regrant u v)) i j q r p h = tt
-    spared_down (write_words first ds) i j q r p h = tt
-    spared_down (keep_pages k) i j q r p h = tt
+    spared_down a1 a2 a3 a4 a5 a6 a7 = grind (arith, common_steps, nat_tests)
 
     pub labelled_revised : (q r : Path) (t : Tree) (l : Label) (c : Cell) → Labelled P l r t → On (λ m pay y. Proper o x m y) (find l c q t) → Spared x q r
         → Labelled P l r (new q t)
@@ -240,61 +223,18 @@ Legit o me f (set_number n e) = On (λ m pay y. Labelled (λ z. below o z me ≡
 Legit o me f (free_number n) = Unit {0}
 Legit o me f (change x a b) = On (λ m pay y. (me ≡ m) × Proper o x m y) f
 
-or_false : (b : Bool) → (b || false) ≡ true → b ≡ true
-or_false true h = h
-or_false false h = h
-
-tied_new : (g : ℕ) (m n : Label) → (same_label m n || not (eqb g 0)) ≡ true → Tied (new_cell g) m n
-tied_new zero m n h = sym (same_eq m n (or_false (same_label m n) h))
-tied_new (suc g) m n h = tt
-
 module _ (o : Orders) (me : Label) (known : ℕ → Known) where
-  label_in_labelled : (m : Label) (y : Tree) → not (is_empty y) ≡ true → below o (label_in m y) me ≡ true → Labelled (λ z. below o z me ≡ true) m [] y
-  label_in_labelled m empty h k = absurd (true≢false (sym h))
-  label_in_labelled m (segment ps) h k = k
-  label_in_labelled m (directory n c places) h k = k
-
   module _ (l : Label) (c : Option Cell) (places : ℕ → Tree) (pay : Cell) where
     abbrev Here : Found
     Here = found l pay (directory l c places)
 
-    move_legit : me ≡ l → (e : ℕ) (y : Tree) (a : ℤ) → Holds (Legit o me Here) (judge_move l pay e y a)
-    move_legit p e empty a = tt
-    move_legit p e (segment ps) a = tt
-    move_legit p e (directory m None ks) a = tt
-    move_legit p e (directory m (Some c') ks) (pos a) = λ h. (p, tt)
-    move_legit p e (directory m (Some c') ks) (negsuc a) = λ h₁ h₂ h₃. (p, tt)
-
     directory_legit : (r : Request) → Holds (Legit o me Here) (judge o me known (is_directory l pay places) r)
     unfolding judge
-    directory_legit (create_segment d e) = λ h₁ h₂ h₃. (same_eq me l h₁, (is_empty_true (places e) h₂, tt))
-    directory_legit (create_directory d e s i g) =
-        λ h₁ h₂ h₃ h₄ h₅.
-        let m : Label = record { security = s; integrity = i } in
-        (same_eq me l h₁, (is_empty_true (places e) h₂, (and_right (valid o m) (below o l m) h₃, tied_new g l m h₄, λ j. tt)))
-    directory_legit (make_known d e n) = λ h₁ h₂ h₃. label_in_labelled l (places e) h₁ h₂
-    directory_legit (terminate n) = λ h. tt
-    directory_legit (read n first m) = tt
-    directory_legit (write n first ds) = tt
-    directory_legit (truncate n k) = tt
-    directory_legit (delete d e) = λ h₁ h₂. (same_eq me l h₁, tt)
-    directory_legit (move_quota d e a) = λ h₁. move_legit (same_eq me l h₁) e (places e) a
-    directory_legit (status d e) = tt
-    directory_legit (quota d) = tt
+    directory_legit a1 = grind (arith, common_steps, nat_tests)
 
   segment_legit : (l : Label) (ps : Pages) (pay : Cell) (r : Request) → Holds (Legit o me (found l pay (segment ps))) (judge o me known (is_segment l pay ps) r)
   unfolding judge
-  segment_legit l ps pay (create_segment d e) = tt
-  segment_legit l ps pay (create_directory d e s i g) = tt
-  segment_legit l ps pay (make_known d e n) = tt
-  segment_legit l ps pay (terminate n) = λ h₁. tt
-  segment_legit l ps pay (read n first m) = tt
-  segment_legit l ps pay (write n first ds) = λ h₁ h₂. (same_eq me l h₁, tt)
-  segment_legit l ps pay (truncate n k) = λ h₁. (same_eq me l h₁, tt)
-  segment_legit l ps pay (delete d e) = tt
-  segment_legit l ps pay (move_quota d e a) = tt
-  segment_legit l ps pay (status d e) = tt
-  segment_legit l ps pay (quota d) = tt
+  segment_legit a1 a2 a3 a4 = grind (arith, common_steps, nat_tests)
 
   found_legit : (r : Request) (q : Path) (t : Tree) (l : Label) (c : Cell) → Holds (Legit o me (find l c q t)) (judge o me known (found_subject (find l c q t)) r)
   found_legit r [] empty l c = gone_holds (Legit o me nothing) (λ n. tt) o me known r

@@ -1,5 +1,7 @@
 -- What holds of each store of a run.
-use Rattle.std.proofs.Common.{◌≡◌, ℕ, ◌≤◌, true, false, List, [], ◌∷◌, length, Some, None, Option, refl, ap, subst, arith}
+use Rattle.std.proofs.lemmas.Grind.{common_steps}
+use Rattle.std.proofs.lemmas.Bool.Decides.{nat_tests}
+use Rattle.std.proofs.Common.{◌≡◌, ℕ, ◌≤◌, true, false, List, [], ◌∷◌, length, Some, None, Option, refl, subst, arith}
 use Rattle.labels.specs.declared.label.Label.{Label}
 use Rattle.labels.specs.Labels.{Orders, below}
 use Rattle.rules.specs.Tree.{Cell, Tree, empty, segment, directory, Path, at, is_empty}
@@ -44,10 +46,7 @@ grown_places_at o q t l m c places g e i = go q t l g e
     go (j ∷ q) (directory l' c' places') l g e = go q (places' j) l' (g.2 j) e
 
 root_is : (n : ℕ) (r : Label) (t : Tree) → Rooted n r t → (c : Cell) × (places : ℕ → Tree) × (t ≡ directory r (Some c) places) × (c.granted ≡ n)
-root_is n r empty h = absurd h
-root_is n r (segment ps) h = absurd h
-root_is n r (directory l None places) h = absurd h
-root_is n r (directory l (Some c) places) h = (c, places, ap (λ z. directory z (Some c) places) h.1, h.0)
+root_is a1 a2 a3 a4 = grind (arith, common_steps, nat_tests)
 
 -- an object is no deeper than there are objects below the root
 depth_below : (n : ℕ) (r : Label) (q : Path) (t : Tree) → Rooted n r t → Fit t → is_empty (at q t) ≡ false → length q ≤ objects_below t

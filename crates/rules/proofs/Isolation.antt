@@ -1,5 +1,7 @@
 -- Calls above a label, or beside it, are not seen at or below it.
-use Rattle.std.proofs.Common.{◌≡◌, ℕ, Bool, true, false, cond, eqb, List, [], ◌∷◌, ◌++◌, Some, None, Ok, Err, Option, Result, sym, refl, ap, ◌∙◌, subst, ap₂, true≢false}
+use Rattle.std.proofs.lemmas.Grind.{common_steps}
+use Rattle.std.proofs.lemmas.Bool.Decides.{nat_tests}
+use Rattle.std.proofs.Common.{arith, ◌≡◌, ℕ, Bool, true, false, cond, eqb, List, [], ◌∷◌, ◌++◌, Some, None, Ok, Err, Option, Result, sym, refl, ap, ◌∙◌, subst, ap₂, true≢false}
 use mathlib.Core.Path.{fun_ext}
 use Rattle.labels.specs.declared.label.Label.{Label}
 use Rattle.frames.specs.Faults.{FrameFault}
@@ -7,7 +9,7 @@ use Rattle.frames.specs.Requests.{Request}
 use Rattle.frames.specs.Decode.{decode}
 use Rattle.labels.specs.Labels.{Orders, LawfulOrders, below}
 use Rattle.rules.specs.Indexed.{assign}
-use Rattle.rules.specs.Tree.{Tree, empty, segment, directory, Path, at}
+use Rattle.rules.specs.Tree.{Tree, Path, at}
 use Rattle.rules.specs.Cells.{find, no_cell, charge}
 use Rattle.rules.specs.KnownNumbers.{Known, free, means, gone, through}
 use Rattle.rules.specs.Changes.{create, remove, regrant, Change, change_place, write_words, keep_pages, changed, after_change, Effect, no_change, set_number, free_number, change, Store, tree_after, numbers_after}
@@ -119,9 +121,7 @@ module _ (s : Setup) (laws : LawfulOrders s.orders) (bound : Label) where
   -- the process does not stand at or below the bound
   module _ (me : Label) (p : ℕ) (pm : nth s.admitted p ≡ Some me) (hi : High me) (w : Store) (h : Sound s w) where
     covered_top : (t : Tree) → IsDirectory t → Covered o laws bound s.root t
-    covered_top empty d = absurd d
-    covered_top (segment ps) d = absurd d
-    covered_top (directory m c places) d = tt
+    covered_top a1 a2 = grind (arith, common_steps, nat_tests)
 
     tree_high : (q : Path) (x : Effect) → Legit o me (find s.root no_cell q w.tree) x → look (tree_after q x w.tree) ≡ look w.tree
     tree_high q no_change lg = refl

@@ -1,21 +1,23 @@
 -- Number 0 of each process always means the root, and there are no numbers past 15.
-use Rattle.std.proofs.Common.{◌≡◌, ℕ, ◌<◌, ◌≤◌, true, cond, List, [], ◌∷◌, ◌++◌, ℤ, pos, negsuc, Some, None, Ok, Err, Option, Result, sym, refl, ap, ◌∙◌, subst, true≢false, arith, ne_eqb}
+use Rattle.std.proofs.lemmas.Grind.{common_steps}
+use Rattle.std.proofs.lemmas.Bool.Decides.{nat_tests}
+use Rattle.std.proofs.Common.{◌≡◌, ℕ, ◌<◌, ◌≤◌, true, cond, List, [], ◌∷◌, ◌++◌, Some, None, Ok, Err, Option, Result, sym, refl, ap, ◌∙◌, subst, true≢false, arith, ne_eqb}
 use Rattle.labels.specs.declared.label.Label.{Label}
 use Rattle.frames.specs.Faults.{FrameFault}
-use Rattle.frames.specs.Requests.{Request, create_segment, create_directory, make_known, terminate, read, write, truncate, delete, move_quota, status, quota}
+use Rattle.frames.specs.Requests.{Request}
 use Rattle.frames.specs.Decode.{decode}
 use Rattle.labels.specs.Labels.{Orders}
 use Rattle.frames.specs.Ranges.{InRange}
 use Rattle.rules.specs.Indexed.{assign}
-use Rattle.rules.specs.Tree.{Cell, Tree, empty, segment, directory, Path}
+use Rattle.rules.specs.Tree.{Path}
 use Rattle.rules.specs.KnownNumbers.{Known, free, means, is_free, new_numbers}
 use Rattle.rules.specs.Changes.{create, remove, regrant, Change, change_place, write_words, keep_pages, after_change, Effect, no_change, set_number, free_number, change, Store, store_after}
-use Rattle.rules.specs.Calls.{Subject, subject, judge_move, judge, first_number}
+use Rattle.rules.specs.Calls.{Subject, subject, judge, first_number}
 use Rattle.rules.specs.Setup.{Setup, opened, nth}
 use Rattle.rules.specs.Responses.{RawCall, effect_of, path_of, verdict, left_by, after}
 use Rattle.rules.specs.Histories.{after_all}
 use Rattle.rules.proofs.Assign.{assign_cases}
-use Rattle.rules.proofs.Outcomes.{Holds, holds, on_directory_holds, on_segment_holds}
+use Rattle.rules.proofs.Outcomes.{Holds, holds}
 use Rattle.frames.proofs.Frames.{decodes_in_range}
 use Rattle.rules.proofs.Exchange.{free_after}
 
@@ -26,26 +28,9 @@ Careful known (set_number n e) = (is_free (known n) ≡ true) × (n < 16)
 Careful known (free_number n) = 1 ≤ n
 Careful known (change x a b) = Unit {0}
 
-move_careful : (known : ℕ → Known) (l : Label) (c : Cell) (e : ℕ) (y : Tree) (a : ℤ) → Holds (Careful known) (judge_move l c e y a)
-move_careful known l c e empty a = tt
-move_careful known l c e (segment ps) a = tt
-move_careful known l c e (directory m None places) a = tt
-move_careful known l c e (directory m (Some c') places) (pos a) = λ h. tt
-move_careful known l c e (directory m (Some c') places) (negsuc a) = λ h₁ h₂ h₃. tt
-
 careful : (o : Orders) (me : Label) (known : ℕ → Known) (x : Subject) (r : Request) → InRange r → Holds (Careful known) (judge o me known x r)
 unfolding judge
-careful o me known x (create_segment d e) i = on_directory_holds (Careful known) x _ (λ l c places h₁ h₂ h₃. tt)
-careful o me known x (create_directory d e s t g) i = on_directory_holds (Careful known) x _ (λ l c places h₁ h₂ h₃ h₄ h₅. tt)
-careful o me known x (make_known d e n) i = on_directory_holds (Careful known) x _ (λ l c places h₁ h₂ h₃. (h₃, let le = i.2 in omega arith))
-careful o me known x (terminate n) i = λ h. i.0
-careful o me known x (read s first n) i = on_segment_holds (Careful known) x _ (λ l c ps. tt)
-careful o me known x (write s first ds) i = on_segment_holds (Careful known) x _ (λ l c ps h₁ h₂. tt)
-careful o me known x (truncate s n) i = on_segment_holds (Careful known) x _ (λ l c ps h₁. tt)
-careful o me known x (delete d e) i = on_directory_holds (Careful known) x _ (λ l c places h₁ h₂. tt)
-careful o me known x (move_quota d e a) i = on_directory_holds (Careful known) x _ (λ l c places h₁. move_careful known l c e (places e) a)
-careful o me known x (status d e) i = on_directory_holds (Careful known) x _ (λ l c places. tt)
-careful o me known x (quota d) i = on_directory_holds (Careful known) x _ (λ l c places. tt)
+careful a1 a2 a3 a4 a5 a6 = grind (arith, common_steps, nat_tests)
 
 pub record Numbered (w : Store) : Type 0 where
   pub zero_is_root : (p : ℕ) → w.numbers p 0 ≡ means []

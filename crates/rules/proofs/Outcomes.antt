@@ -1,14 +1,14 @@
 -- What holds of a call's effect, however its tests come out.
-use Rattle.std.proofs.Common.{◌≡◌, ℕ, Bool, true, false, cond, Err, refl}
+use Rattle.std.proofs.lemmas.Grind.{common_steps}
+use Rattle.std.proofs.lemmas.Bool.Decides.{nat_tests}
+use Rattle.std.proofs.Common.{arith, ◌≡◌, ℕ, Bool, true, false, cond, Err, refl}
 use Rattle.rules.specs.Denials.{fault}
 use Rattle.labels.specs.declared.label.Label.{Label}
-use Rattle.frames.specs.Requests.{Request, create_segment, create_directory, make_known, terminate, read, write, truncate, delete, move_quota, status, quota}
+use Rattle.frames.specs.Requests.{Request}
 use Rattle.labels.specs.Labels.{Orders}
-use Rattle.rules.specs.Segments.{Pages}
-use Rattle.rules.specs.Tree.{Cell, Tree}
 use Rattle.rules.specs.KnownNumbers.{Known}
 use Rattle.rules.specs.Changes.{Effect, no_change, free_number}
-use Rattle.rules.specs.Calls.{Judgement, deny, done, require, Subject, is_free_number, is_gone, is_segment, is_directory, on_directory, on_segment, judge, settled}
+use Rattle.rules.specs.Calls.{Judgement, deny, done, require, is_free_number, is_gone, judge, settled}
 use Rattle.rules.specs.Responses.{effect_of}
 
 -- P of the effect_of, from the tests that passed
@@ -27,47 +27,13 @@ holds P pk (require b d k rest) h = go b (λ e. holds P pk rest (h e))
     go false f = pk
 
 module _ (P : Effect → Type 0) where
-  -- a call on a directory
-  pub on_directory_holds : (x : Subject) (k : Label → Cell → (ℕ → Tree) → Judgement) → ((l : Label) (c : Cell) (places : ℕ → Tree) → Holds P (k l c places)) → Holds P (on_directory x k)
-  on_directory_holds is_free_number k h = tt
-  on_directory_holds is_gone k h = tt
-  on_directory_holds (is_segment l c ps) k h = tt
-  on_directory_holds (is_directory l c places) k h = h l c places
-
-  -- a call on a segment
-  pub on_segment_holds : (x : Subject) (k : Label → Cell → Pages → Judgement) → ((l : Label) (c : Cell) (ps : Pages) → Holds P (k l c ps)) → Holds P (on_segment x k)
-  on_segment_holds is_free_number k h = tt
-  on_segment_holds is_gone k h = tt
-  on_segment_holds (is_segment l c ps) k h = h l c ps
-  on_segment_holds (is_directory l c places) k h = tt
-
   module _ (frees : (n : ℕ) → P (free_number n)) (o : Orders) (me : Label) (known : ℕ → Known) where
     -- through a free number nothing is done but freeing
     pub free_holds : (r : Request) → Holds P (judge o me known is_free_number r)
     unfolding judge
-    free_holds (create_segment d e) = tt
-    free_holds (create_directory d e s i g) = tt
-    free_holds (make_known d e n) = tt
-    free_holds (terminate n) = λ h. frees n
-    free_holds (read s first n) = tt
-    free_holds (write s first ds) = tt
-    free_holds (truncate s n) = tt
-    free_holds (delete d e) = tt
-    free_holds (move_quota d e a) = tt
-    free_holds (status d e) = tt
-    free_holds (quota d) = tt
+    free_holds a1 = grind (arith, common_steps, nat_tests)
 
     -- nor through one that is gone
     pub gone_holds : (r : Request) → Holds P (judge o me known is_gone r)
     unfolding judge
-    gone_holds (create_segment d e) = tt
-    gone_holds (create_directory d e s i g) = tt
-    gone_holds (make_known d e n) = tt
-    gone_holds (terminate n) = λ h. frees n
-    gone_holds (read s first n) = tt
-    gone_holds (write s first ds) = tt
-    gone_holds (truncate s n) = tt
-    gone_holds (delete d e) = tt
-    gone_holds (move_quota d e a) = tt
-    gone_holds (status d e) = tt
-    gone_holds (quota d) = tt
+    gone_holds a1 = grind (arith, common_steps, nat_tests)

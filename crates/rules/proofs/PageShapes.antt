@@ -1,25 +1,27 @@
 -- A segment has sixteen pages, and a present page sixteen words.
-use Rattle.std.proofs.Common.{◌≡◌, ℕ, ◌+◌, ◌*◌, ◌/◌, ◌≤◌, true, ltb, leb, List, [], ◌∷◌, length, ℤ, pos, negsuc, Some, None, Ok, Err, Option, Result, refl, subst, arith, ltb-true}
+use Rattle.std.proofs.lemmas.Grind.{common_steps}
+use Rattle.std.proofs.lemmas.Bool.Decides.{nat_tests}
+use Rattle.std.proofs.Common.{◌≡◌, ℕ, ◌+◌, ◌*◌, ◌/◌, ◌≤◌, true, ltb, leb, List, [], ◌∷◌, length, Some, None, Ok, Err, Option, Result, refl, subst, arith, ltb-true}
 use Rattle.labels.specs.declared.label.Label.{Label}
 use Rattle.frames.specs.Faults.{FrameFault}
-use Rattle.frames.specs.Requests.{Request, create_segment, create_directory, make_known, terminate, read, write, truncate, delete, move_quota, status, quota}
+use Rattle.frames.specs.Requests.{Request}
 use Rattle.frames.specs.Decode.{decode}
 use Rattle.labels.specs.Labels.{Orders}
 use Rattle.frames.specs.Ranges.{InRange}
 use Rattle.rules.specs.Indexed.{tabulate}
 use Rattle.rules.specs.Segments.{Page, absent, present, Pages, touched, word_after}
-use Rattle.rules.specs.Tree.{Cell, Tree, empty, segment, directory, Path, at}
+use Rattle.rules.specs.Tree.{Tree, empty, segment, directory, Path, at}
 use Rattle.rules.specs.Cells.{charge}
 use Rattle.rules.specs.KnownNumbers.{Known}
-use Rattle.rules.specs.Changes.{PlaceChange, create, remove, regrant, Change, change_place, write_words, keep_pages, with_grant, place_after, places_after, pages_after, changed, Effect, no_change, set_number, free_number, change, Store, tree_after}
-use Rattle.rules.specs.Calls.{Subject, subject, judge_move, judge, first_number}
+use Rattle.rules.specs.Changes.{PlaceChange, create, remove, regrant, Change, change_place, write_words, keep_pages, places_after, pages_after, changed, Effect, no_change, set_number, free_number, change, Store, tree_after}
+use Rattle.rules.specs.Calls.{Subject, subject, judge, first_number}
 use Rattle.rules.specs.Setup.{Setup, opened, nth}
 use Rattle.rules.specs.Responses.{RawCall, effect_of, path_of, verdict, left_by, after}
 use Rattle.rules.specs.Histories.{after_all}
 use Rattle.rules.proofs.Assign.{assign_cases}
 use Rattle.rules.proofs.Updates.{updated, paid_at_once}
 use Rattle.rules.proofs.Choices.{and_right, by_cases}
-use Rattle.rules.proofs.Outcomes.{Holds, holds, on_directory_holds, on_segment_holds}
+use Rattle.rules.proofs.Outcomes.{Holds, holds}
 use Rattle.frames.proofs.Frames.{decodes_in_range}
 
 abbrev Full : Page → Type 0
@@ -67,21 +69,8 @@ shaped_pages_after (keep_pages n) ps h s k = (
   λ b. by_cases (λ y. y ≡ absent) (ltb k n) (ps k) absent (λ e. (s k).1 b) (λ e. refl),
 )
 
-shaped_granted : (a b : ℕ) (t : Tree) → Shaped t → Shaped (with_grant a b t)
-shaped_granted a b empty s = tt
-shaped_granted a b (segment ps) s = s
-shaped_granted a b (directory l None places) s = s
-shaped_granted a b (directory l (Some c) places) s = s
-
-shaped_place : (x : PlaceChange) (t : Tree) → ShapingPlace x → Shaped t → Shaped (place_after x t)
-shaped_place (create y) t h s = h
-shaped_place remove t h s = tt
-shaped_place (regrant a b) t h s = shaped_granted a b t s
-
 shaped_places : (x : Change) (places : ℕ → Tree) → Shaping x → ((i : ℕ) → Shaped (places i)) → (i : ℕ) → Shaped (places_after x places i)
-shaped_places (change_place e y) places h s i = assign_cases Shaped places e (place_after y (places e)) i (λ p. shaped_place y (places e) h (s e)) (s i)
-shaped_places (write_words first ds) places h s i = s i
-shaped_places (keep_pages n) places h s i = s i
+shaped_places a1 a2 a3 a4 a5 = grind (arith, common_steps, nat_tests)
 
 shaped_updated : (x : Change) (a b : ℕ) (q : Path) (t : Tree) → Shaping x → Shaped t → Shaped (updated (charge a b) (changed x) q t)
 shaped_updated x a b [] empty h s = tt
@@ -92,26 +81,9 @@ shaped_updated x a b (i ∷ q) (segment ps) h s = s
 shaped_updated x a b (i ∷ q) (directory l c places) h s =
     λ j. assign_cases Shaped places i (updated (charge a b) (changed x) q (places i)) j (λ p. shaped_updated x a b q (places i) h (s i)) (s j)
 
-move_shaping : (l : Label) (c : Cell) (e : ℕ) (y : Tree) (a : ℤ) → Holds ShapingEffect (judge_move l c e y a)
-move_shaping l c e empty a = tt
-move_shaping l c e (segment ps) a = tt
-move_shaping l c e (directory m None places) a = tt
-move_shaping l c e (directory m (Some c') places) (pos a) = λ h. tt
-move_shaping l c e (directory m (Some c') places) (negsuc a) = λ h₁ h₂ h₃. tt
-
 shaping : (o : Orders) (me : Label) (known : ℕ → Known) (x : Subject) (r : Request) → InRange r → Holds ShapingEffect (judge o me known x r)
 unfolding judge
-shaping o me known x (create_segment d e) i = on_directory_holds ShapingEffect x _ (λ l c places h₁ h₂ h₃ k. (tt, λ b. refl))
-shaping o me known x (create_directory d e s t g) i = on_directory_holds ShapingEffect x _ (λ l c places h₁ h₂ h₃ h₄ h₅ j. tt)
-shaping o me known x (make_known d e n) i = on_directory_holds ShapingEffect x _ (λ l c places h₁ h₂ h₃. tt)
-shaping o me known x (terminate n) i = λ h. tt
-shaping o me known x (read s first n) i = on_segment_holds ShapingEffect x _ (λ l c ps. tt)
-shaping o me known x (write s first ds) i = on_segment_holds ShapingEffect x _ (λ l c ps h₁ h₂. i.4)
-shaping o me known x (truncate s n) i = on_segment_holds ShapingEffect x _ (λ l c ps h₁. tt)
-shaping o me known x (delete d e) i = on_directory_holds ShapingEffect x _ (λ l c places h₁ h₂. tt)
-shaping o me known x (move_quota d e a) i = on_directory_holds ShapingEffect x _ (λ l c places h₁. move_shaping l c e (places e) a)
-shaping o me known x (status d e) i = on_directory_holds ShapingEffect x _ (λ l c places. tt)
-shaping o me known x (quota d) i = on_directory_holds ShapingEffect x _ (λ l c places. tt)
+shaping a1 a2 a3 a4 a5 a6 = grind (arith, common_steps, nat_tests)
 
 shaped_tree : (q : Path) (x : Effect) (t : Tree) → ShapingEffect x → Shaped t → Shaped (tree_after q x t)
 shaped_tree q no_change t h s = s

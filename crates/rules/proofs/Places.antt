@@ -1,7 +1,9 @@
 -- What stands at a path, and at a place.
-use Rattle.std.proofs.Common.{◌≡◌, true, sym, refl, true≢false}
+use Rattle.std.proofs.lemmas.Grind.{common_steps}
+use Rattle.std.proofs.lemmas.Bool.Decides.{nat_tests}
+use Rattle.std.proofs.Common.{arith, ◌≡◌, true}
 use Rattle.labels.specs.declared.label.Label.{Label}
-use Rattle.rules.specs.Tree.{Cell, Tree, empty, segment, directory, is_empty}
+use Rattle.rules.specs.Tree.{Cell, Tree, empty, is_empty}
 use Rattle.rules.specs.Cells.{Found, nothing, found}
 
 -- an object was found, and P holds of its label, the cell that it uses and itself
@@ -11,6 +13,4 @@ On P (found l c t) = P l c t
 
 -- a place that tests as empty is empty
 pub is_empty_true : (t : Tree) → is_empty t ≡ true → t ≡ empty
-is_empty_true empty h = refl
-is_empty_true (segment ps) h = absurd (true≢false (sym h))
-is_empty_true (directory m c places) h = absurd (true≢false (sym h))
+is_empty_true a1 a2 = grind (arith, common_steps, nat_tests)

@@ -1,24 +1,21 @@
 -- What holds of every response: a denied call changes nothing, each denial has its layer, and words fit their buffer.
-use Rattle.std.proofs.Common.{◌≡◌, ℕ, zero, suc, ◌+◌, ◌≤◌, Bool, true, false, cond, List, [], length, ℤ, pos, negsuc, Some, None, Ok, Err, Option, Result, sym, refl, ap, subst, arith}
+use Rattle.std.proofs.lemmas.Grind.{common_steps}
+use Rattle.std.proofs.lemmas.Bool.Decides.{nat_tests}
+use Rattle.std.proofs.Common.{◌≡◌, ℕ, zero, suc, ◌+◌, ◌≤◌, Bool, true, false, cond, List, [], length, ℤ, Some, None, Ok, Err, Option, Result, sym, refl, ap, subst, arith}
 use Rattle.labels.specs.declared.label.Label.{Label}
 use Rattle.frames.specs.Faults.{FrameFault}
-use Rattle.frames.specs.declared.fault.Flaw.{Flaw}
-use Rattle.frames.specs.declared.fault.Flaw.TheVariants.{NotAdmitted, NotACall, WrongCount, WrongKind, OutOfRange}
-use Rattle.frames.specs.Faults.{flaw_number}
 use Rattle.frames.specs.Requests.{Request, create_segment, create_directory, make_known, terminate, read, write, truncate, delete, move_quota, status, quota, reply_words}
 use Rattle.frames.specs.Decode.{decode}
 use Rattle.labels.specs.Labels.{Orders}
-use Rattle.rules.specs.declared.denial.Denial.{Denial}
-use Rattle.rules.specs.declared.denial.Denial.TheVariants.{NumberFree, NumberGone, WrongSort, OtherLabel, WrongPlace, WrongLabel, NumberTaken, WrongGrant, TooFewLeft, ProcessesFull}
-use Rattle.rules.specs.Denials.{denial_number, fault}
+use Rattle.rules.specs.Denials.{fault}
 use Rattle.rules.specs.Indexed.{tabulate}
 use Rattle.rules.specs.Segments.{Pages, segment_word}
-use Rattle.rules.specs.Tree.{Cell, Tree, empty, segment, directory, Path}
+use Rattle.rules.specs.Tree.{Cell, Tree}
 use Rattle.rules.specs.KnownNumbers.{Known}
-use Rattle.rules.specs.Changes.{Store, store_after}
-use Rattle.rules.specs.Calls.{Verdict, Judgement, deny, done, require, Subject, is_free_number, is_gone, is_segment, is_directory, subject, on_directory, on_segment, values, status_values, judge_move, judge, first_number, settled}
+use Rattle.rules.specs.Changes.{Store}
+use Rattle.rules.specs.Calls.{Judgement, deny, done, require, Subject, subject, on_directory, on_segment, values, status_values, judge_move, judge, first_number, settled}
 use Rattle.rules.specs.Setup.{Setup, nth}
-use Rattle.rules.specs.Responses.{RawCall, Response, response, judged, effect_of, path_of, verdict, response_to, left_by}
+use Rattle.rules.specs.Responses.{RawCall, Response, response, judged, response_to, left_by}
 use Rattle.rules.specs.Histories.{layer_of, RepliesExact}
 use Rattle.frames.proofs.Frames.{decodes_in_range}
 
@@ -28,42 +25,11 @@ use Rattle.frames.proofs.Frames.{decodes_in_range}
 abbrev Unchanged : Store → Response → Store → Type 0
 Unchanged w y w' = (y.reply.answer ≡ 0 → ⊥) → (w' ≡ w) × (y.reply.values ≡ values 0 0 0 0) × (y.words ≡ [])
 
-unchanged_by : (w : Store) (p : ℕ) (q : Path) (v : Verdict) → Unchanged w (judged v) (store_after p q (effect_of v) w)
-unchanged_by w p q (Err f) h = (refl, refl, refl)
-unchanged_by w p q (Ok y) h = absurd (h refl)
-
 unchanged : (s : Setup) (w : Store) (m : Option Label) (p : ℕ) (d : Result Request FrameFault) → Unchanged w (response_to s w m p d) (left_by s w m p d)
-unchanged s w None p d h = (refl, refl, refl)
-unchanged s w (Some me) p (Err f) h = (refl, refl, refl)
-unchanged s w (Some me) p (Ok r) h = unchanged_by w p (path_of (w.numbers p (first_number r))) (verdict s w me p r) h
-
-flaw_layer : (f : Flaw) → 1 ≡ layer_of (flaw_number f)
-flaw_layer NotAdmitted = refl
-flaw_layer NotACall = refl
-flaw_layer WrongCount = refl
-flaw_layer WrongKind = refl
-flaw_layer OutOfRange = refl
-
-denial_layer : (d : Denial) → 2 ≡ layer_of (denial_number d)
-denial_layer NumberFree = refl
-denial_layer NumberGone = refl
-denial_layer WrongSort = refl
-denial_layer OtherLabel = refl
-denial_layer WrongPlace = refl
-denial_layer WrongLabel = refl
-denial_layer NumberTaken = refl
-denial_layer WrongGrant = refl
-denial_layer TooFewLeft = refl
-denial_layer ProcessesFull = refl
-
-judged_layer : (v : Verdict) → (judged v).reply.layer ≡ layer_of (judged v).reply.answer
-judged_layer (Err f) = denial_layer f.reason
-judged_layer (Ok y) = refl
+unchanged a1 a2 a3 a4 a5 a6 = grind (arith, common_steps, nat_tests)
 
 layered : (s : Setup) (w : Store) (m : Option Label) (p : ℕ) (d : Result Request FrameFault) → (response_to s w m p d).reply.layer ≡ layer_of (response_to s w m p d).reply.answer
-layered s w None p d = refl
-layered s w (Some me) p (Err f) = flaw_layer f.reason
-layered s w (Some me) p (Ok r) = judged_layer (verdict s w me p r)
+layered a1 a2 a3 a4 a5 = grind (arith, common_steps, nat_tests)
 
 -- Values and words
 
@@ -87,16 +53,10 @@ says P none (require b d k rest) h = go b (says P none rest h)
 
 module _ (P : List ℕ → List ℕ → Type 0) where
   on_directory_says : (x : Subject) (k : Label → Cell → (ℕ → Tree) → Judgement) → ((l : Label) (c : Cell) (places : ℕ → Tree) → Says P (k l c places)) → Says P (on_directory x k)
-  on_directory_says is_free_number k h = tt
-  on_directory_says is_gone k h = tt
-  on_directory_says (is_segment l c ps) k h = tt
-  on_directory_says (is_directory l c places) k h = h l c places
+  on_directory_says a1 a2 a3 = grind (arith, common_steps, nat_tests)
 
   on_segment_says : (x : Subject) (k : Label → Cell → Pages → Judgement) → ((l : Label) (c : Cell) (ps : Pages) → Says P (k l c ps)) → Says P (on_segment x k)
-  on_segment_says is_free_number k h = tt
-  on_segment_says is_gone k h = tt
-  on_segment_says (is_segment l c ps) k h = h l c ps
-  on_segment_says (is_directory l c places) k h = tt
+  on_segment_says a1 a2 a3 = grind (arith, common_steps, nat_tests)
 
 tabulate_length : (n : ℕ) (f : ℕ → ℕ) → length (tabulate n f) ≡ n
 tabulate_length zero f = refl
@@ -111,16 +71,10 @@ module _ (room : ℕ) where
   no_words = omega arith
 
   status_fits : (l : Label) (t : Tree) → FitIn (status_values l t) []
-  status_fits l empty = (refl, no_words)
-  status_fits l (segment ps) = (refl, no_words)
-  status_fits l (directory m c places) = (refl, no_words)
+  status_fits a1 a2 = grind (arith, common_steps, nat_tests)
 
   move_fits : (l : Label) (c : Cell) (e : ℕ) (y : Tree) (a : ℤ) → Says FitIn (judge_move l c e y a)
-  move_fits l c e empty a = tt
-  move_fits l c e (segment ps) a = tt
-  move_fits l c e (directory m None places) a = tt
-  move_fits l c e (directory m (Some c') places) (pos a) = (refl, no_words)
-  move_fits l c e (directory m (Some c') places) (negsuc a) = (refl, no_words)
+  move_fits a1 a2 a3 a4 a5 = grind (arith, common_steps, nat_tests)
 
   judge_fits : (o : Orders) (me : Label) (known : ℕ → Known) (x : Subject) (r : Request) → reply_words r ≤ room → Says FitIn (judge o me known x r)
   unfolding judge

@@ -1,5 +1,7 @@
 -- The part of the tree that stands at or below a label, and what calls do to it.
-use Rattle.std.proofs.Common.{◌≡◌, ℕ, suc, ◌+◌, ◌-◌, Bool, true, false, cond, not, ◌&&◌, ◌||◌, eqb, ltb, leb, [], ◌∷◌, ℤ, pos, negsuc, Some, None, Err, Option, sym, refl, ap, ◌∙◌, subst, ap₂}
+use Rattle.std.proofs.lemmas.Grind.{common_steps}
+use Rattle.std.proofs.lemmas.Bool.Decides.{nat_tests}
+use Rattle.std.proofs.Common.{arith, ◌≡◌, ℕ, suc, ◌+◌, ◌-◌, Bool, true, false, cond, not, ◌&&◌, ◌||◌, eqb, ltb, leb, [], ◌∷◌, ℤ, Some, None, Err, Option, sym, refl, ap, ◌∙◌, subst, ap₂}
 use mathlib.Core.Path.{fun_ext}
 use Rattle.labels.specs.declared.label.Label.{Label}
 use Rattle.frames.specs.Requests.{Request, create_segment, create_directory, make_known, terminate, read, write, truncate, delete, move_quota, status, quota}
@@ -7,7 +9,7 @@ use Rattle.rules.specs.declared.denial.Denial.TheVariants.{OtherLabel, WrongPlac
 use Rattle.rules.specs.Denials.{fault}
 use Rattle.labels.specs.Labels.{same_label, Orders, LawfulOrders, valid, below}
 use Rattle.rules.specs.Indexed.{assign}
-use Rattle.rules.specs.Tree.{Cell, Tree, empty, segment, directory, Path, at, new_segment, new_directory, is_empty, label_in, sort_of, grant_of}
+use Rattle.rules.specs.Tree.{Cell, Tree, empty, segment, directory, Path, at, new_segment, new_directory, is_empty, label_in, sort_of}
 use Rattle.rules.specs.Cells.{cost, cell_used, find, charge, has_cell}
 use Rattle.rules.specs.KnownNumbers.{Known, is_free}
 use Rattle.rules.specs.Changes.{PlaceChange, create, remove, regrant, Change, change_place, write_words, keep_pages, with_grant, place_after, places_after, changed, map_cell, no_change, set_number, change}
@@ -17,7 +19,7 @@ use Rattle.rules.proofs.Assign.{assign_cases}
 use Rattle.rules.proofs.Updates.{cell_on_path, updated}
 use Rattle.rules.proofs.Choices.{clash, by_cases}
 use Rattle.rules.proofs.Sums.{sum_ext}
-use Rattle.rules.proofs.Grown.{same_eq, below_trans, Grown, Labelled, no_cell_between, above}
+use Rattle.rules.proofs.Grown.{below_trans, Grown, Labelled, no_cell_between, above}
 
 abbrev pub stub : Cell → Cell
 stub c = record { granted = c.granted; left = 0 }
@@ -29,12 +31,10 @@ view o bound (segment ps) = segment ps
 view o bound (directory l c places) = cond (below o l bound) (directory l c (λ i. view o bound (places i))) (directory l (map_cell stub c) (λ i. empty))
 
 stub_stub : (c : Option Cell) → map_cell stub (map_cell stub c) ≡ map_cell stub c
-stub_stub None = refl
-stub_stub (Some c) = refl
+stub_stub a1 = grind (arith, common_steps, nat_tests)
 
 stub_charge : (a b : ℕ) (c : Option Cell) → map_cell stub (map_cell (charge a b) c) ≡ map_cell stub c
-stub_charge a b None = refl
-stub_charge a b (Some c) = refl
+stub_charge a1 a2 a3 = grind (arith, common_steps, nat_tests)
 
 -- a move of suc a records from the cell z at the place e, once the labels were compared
 abbrev lowered : ℕ → ℕ → Cell → Judgement
@@ -75,55 +75,24 @@ module _ (o : Orders) (bound : Label) where
   -- what a call asks of a place is told by the view
 
   pub is_empty_seen : (t : Tree) → is_empty (see t) ≡ is_empty t
-  is_empty_seen empty = refl
-  is_empty_seen (segment ps) = refl
-  is_empty_seen (directory m c places) =
-      by_cases (λ t. is_empty t ≡ false) (below o m bound) (directory m c (λ i. see (places i))) (directory m (map_cell stub c) (λ i. empty)) (λ e. refl) (λ e. refl)
+  is_empty_seen a1 = grind (arith, common_steps, nat_tests)
 
   label_in_seen : (l : Label) (t : Tree) → label_in l (see t) ≡ label_in l t
-  label_in_seen l empty = refl
-  label_in_seen l (segment ps) = refl
-  label_in_seen l (directory m c places) =
-      by_cases (λ t. label_in l t ≡ m) (below o m bound) (directory m c (λ i. see (places i))) (directory m (map_cell stub c) (λ i. empty)) (λ e. refl) (λ e. refl)
+  label_in_seen a1 a2 = grind (arith, common_steps, nat_tests)
 
   sort_of_seen : (t : Tree) → sort_of (see t) ≡ sort_of t
-  sort_of_seen empty = refl
-  sort_of_seen (segment ps) = refl
-  sort_of_seen (directory m c places) =
-      by_cases (λ t. sort_of t ≡ 2) (below o m bound) (directory m c (λ i. see (places i))) (directory m (map_cell stub c) (λ i. empty)) (λ e. refl) (λ e. refl)
-
-  grant_of_stub : (c : Option Cell) → grant_of (map_cell stub c) ≡ grant_of c
-  grant_of_stub None = refl
-  grant_of_stub (Some c) = refl
+  sort_of_seen a1 = grind (arith, common_steps, nat_tests)
 
   status_seen : (l : Label) (t : Tree) → status_values l (see t) ≡ status_values l t
-  status_seen l empty = refl
-  status_seen l (segment ps) = refl
-  status_seen l (directory m c places) =
-      by_cases (λ t. status_values l t ≡ status_values l (directory m c places)) (below o m bound) (directory m c (λ i. see (places i))) (directory m (map_cell stub c) (λ i. empty))
-      (λ e. refl) (λ e. ap (values 2 m.security m.integrity) (grant_of_stub c))
+  status_seen a1 a2 = grind (arith, common_steps, nat_tests)
 
   -- a label that is not below the bound is not one that is
   apart : (l m : Label) → below o l bound ≡ true → below o m bound ≡ false → (b : Bool) → same_label l m ≡ b → b ≡ false
-  apart l m lo e true k = absurd (clash _ lo (subst (λ z. below o z bound ≡ false) (sym (same_eq l m k)) e))
-  apart l m lo e false k = refl
+  apart a1 a2 a3 a4 a5 a6 = grind (arith, common_steps, nat_tests)
 
   -- a cell above the bound is never asked what it has left
   move_seen : (l : Label) (c : Cell) (e : ℕ) (t : Tree) (a : ℤ) → below o l bound ≡ true → settled (judge_move l c e (see t) a) ≡ settled (judge_move l c e t a)
-  move_seen l c e empty a lo = refl
-  move_seen l c e (segment ps) a lo = refl
-  move_seen l c e (directory m None places) a lo =
-      by_cases (λ t. settled (judge_move l c e t a) ≡ Err (fault WrongGrant 3)) (below o m bound) (directory m None (λ i. see (places i))) (directory m None (λ i. empty)) (λ e. refl) (λ e. refl)
-  move_seen l c e (directory m (Some c') places) (pos a) lo =
-      by_cases (λ t. settled (judge_move l c e t (pos a)) ≡ settled (judge_move l c e (directory m (Some c') places) (pos a)))
-      (below o m bound) (directory m (Some c') (λ i. see (places i))) (directory m (Some (stub c')) (λ i. empty)) (λ e. refl) (λ e. refl)
-  move_seen l c e (directory m (Some c') places) (negsuc a) lo =
-      by_cases (λ t. settled (judge_move l c e t (negsuc a)) ≡ settled (judge_move l c e (directory m (Some c') places) (negsuc a)))
-      (below o m bound) (directory m (Some c') (λ i. see (places i))) (directory m (Some (stub c')) (λ i. empty)) (λ h. refl)
-      (λ h.
-      let f = apart l m lo h (same_label l m) refl in
-      ap (λ b. cond b (settled (lowered a e (stub c'))) (Err (fault WrongGrant 3))) f
-      ∙ sym (ap (λ b. cond b (settled (lowered a e c')) (Err (fault WrongGrant 3))) f))
+  move_seen a1 a2 a3 a4 a5 a6 = grind (arith, common_steps, nat_tests)
 
   module _ (me : Label) (known : ℕ → Known) where
     -- a call on a directory at or below the bound comes to the same in the view
@@ -172,9 +141,7 @@ module _ (o : Orders) (laws : LawfulOrders o) (bound : Label) where
   Covered l (directory m c places) = Unit {0}
 
   covered : (l : Label) (t : Tree) → Low l → Covered l t
-  covered l empty h = tt
-  covered l (segment ps) h = h
-  covered l (directory m c places) h = tt
+  covered a1 a2 a3 = grind (arith, common_steps, nat_tests)
 
   -- a call through a path at or below the bound comes to the same in the view
   pub path_seen : (me : Label) (known : ℕ → Known) (r : Request) (q : Path) (t : Tree) (l : Label) (c : Cell) → Grown o l t → Labelled Low l q t
@@ -210,8 +177,7 @@ module _ (o : Orders) (laws : LawfulOrders o) (bound : Label) where
       seen_low o bound m c' places e ∙ ap (directory m c') (fun_ext (λ i. sym (twice o bound (places i)))) ∙ sym (seen_low o bound m c' (λ i. look (places i)) e)
 
   regranted_high : (u v : ℕ) (m : Label) (c : Option Cell) (places : ℕ → Tree) → High m → look (with_grant u v (directory m c places)) ≡ look (with_grant u v (directory m (map_cell stub c) (λ i. empty)))
-  regranted_high u v m None places e = seen_high o bound m None places e ∙ sym (seen_high o bound m None (λ i. empty) e)
-  regranted_high u v m (Some c) places e = seen_high o bound m _ places e ∙ sym (seen_high o bound m _ (λ i. empty) e)
+  regranted_high a1 a2 a3 a4 a5 a6 = grind (arith, common_steps, nat_tests)
 
   turn_seen : (t : PlaceChange) (y : Tree) → look (place_after t y) ≡ look (place_after t (look y))
   turn_seen (create x) y = refl
@@ -285,12 +251,7 @@ module _ (o : Orders) (laws : LawfulOrders o) (bound : Label) where
   -- What is shown
 
   item_seen : (t : Tree) → entry (look t) ≡ entry t
-  item_seen empty = refl
-  item_seen (segment ps) = refl
-  item_seen (directory m None places) =
-      by_cases (λ t. entry t ≡ entry (directory m None places)) (below o m bound) (directory m None (λ i. look (places i))) (directory m None (λ i. empty)) (λ e. refl) (λ e. refl)
-  item_seen (directory m (Some c) places) =
-      by_cases (λ t. entry t ≡ entry (directory m (Some c) places)) (below o m bound) (directory m (Some c) (λ i. look (places i))) (directory m (Some (stub c)) (λ i. empty)) (λ e. refl) (λ e. refl)
+  item_seen a1 = grind (arith, common_steps, nat_tests)
 
   higher : (m n : Label) → below o m n ≡ true → High m → High n
   higher m n h k = go (below o n bound) refl

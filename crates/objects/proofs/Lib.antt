@@ -1,4 +1,6 @@
+mod Arrays
 mod Charging
-mod Releasing
-mod Lacking
+mod Counting
 mod Fresh
+mod Lacking
+mod Storing

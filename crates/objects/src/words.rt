@@ -37,8 +37,9 @@ pub(crate) fn write_page<V: Volume>(
     ensures pages { pages_in (V.Volume.words volume.new) ≡ pages_in (V.Volume.words volume.old) }
     ensures words { (x : ℕ) → told (V.Volume.words volume.new) x ≡ page_written (told (V.Volume.words volume.old)) (number_of page) (is_fresh page) number extent.entry.first extent.entry.words.now 16 x }
 {
+    let into = page.number();
     for word in 0..PAGE_WORDS {
         let value = new_word(volume, page, word, PAGE_WORDS * number + word, extent);
-        let _ = volume.write(page.number(), word, value);
+        let _ = volume.write(into, word, value);
     }
 }

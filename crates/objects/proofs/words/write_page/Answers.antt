@@ -27,7 +27,7 @@ loop-word-preserved g c =
     let there : inside ws p q ≡ true = and_from _ _ (lt-ltb p (pages_in ws) (omega arith)) (lt-ltb q 16 (omega arith)) in
     let old = c.loop-word.invariant.1 (p * 16 + q) ∙ page_past w p fresh c.args.number first ds q q (omega arith) in
     let value = c.new_word-value.ensures ∙ ap (λ (z : ℕ). word_over first ds (16 * c.args.number + q) (cond fresh 0 z)) old in
-    let set = c.write.ensures.words ∙ ap (λ (u : ℕ). written ws u q c.new_word-value.result) c.number.ensures ∙ sym (inside_written ws p q c.new_word-value.result there) in
+    let set = c.write.ensures.words ∙ ap (λ (u : ℕ). written ws u q c.new_word-value.result) c.number-into.ensures ∙ sym (inside_written ws p q c.new_word-value.result there) in
     let items = items_set ws (p * 16 + q) c.new_word-value.result 0 (index_inside ws p q there) in (
       c.write.ensures.pages ∙ same,
       λ x. ap (λ (l : List ℕ). told l x) set ∙ ap (λ (f : ℕ → ℕ). f x) items ∙ ap₂ (cond (eqb x (p * 16 + q))) value (c.loop-word.invariant.1 x)

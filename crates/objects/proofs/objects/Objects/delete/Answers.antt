@@ -21,7 +21,7 @@ charge-requires c =
     let k = c.args.self.now.kept in
     let d = c.args.directory in
     let bound = removal_gives k d c.args.place c.args.child c.weights-back.result (λ z. get_or c.args.marks.now z false) c.requires.there c.requires.marked c.weights-back.ensures in
-    can_charge (look c.args.self.now.storage.table) k d 0 c.weights-back.result (dir_live _ ((formed k).down d c.args.place c.args.child c.requires.there).whole) (omega arith) (omega arith) (omega arith)
+    can_charge (look c.args.self.now.storage.table) k d _ _ (dir_live _ ((formed k).down d c.args.place c.args.child c.requires.there).whole) (omega arith) (omega arith) (omega arith)
 
 pub set_entry-requires : goal.set_entry-requires
 set_entry-requires c =

@@ -38,7 +38,7 @@ charge-requires c =
     let high = granted_small k (a d).payer (payer_has_cell k d l) in
     let few = few_records k in
     let paid = c.requires.paid in
-    can_charge a k d c.args.taken 0 l (omega arith) (omega arith) (omega arith)
+    can_charge a k d _ _ l (omega arith) (omega arith) (omega arith)
 
 pub pop-index-requires : goal.pop-index-requires
 pop-index-requires c =

@@ -21,7 +21,7 @@ charge-requires c =
     let k = c.args.self.now.kept in
     let d = c.args.directory in
     let small = c.requires.small.0 in
-    can_charge (look c.args.self.now.storage.table) k d c.args.up c.args.down (dir_live _ ((formed k).down d c.args.place c.args.child c.requires.there).whole) (omega arith) c.requires.paid
+    can_charge (look c.args.self.now.storage.table) k d _ _ (dir_live _ ((formed k).down d c.args.place c.args.child c.requires.there).whole) (omega arith) c.requires.paid
     (move_gives k d c.args.place c.args.child c.args.up c.args.down c.requires.there c.requires.cell c.requires.paid c.requires.owed)
 
 pub regrant-requires : goal.regrant-requires

@@ -22,7 +22,7 @@ charge-requires c =
     let k = c.args.self.now.kept in
     let i = c.args.segment in
     let bound = truncation_gives k i c.args.keep c.present_from-back.result c.requires.segment c.present_from-back.ensures.value in
-    can_charge (look c.args.self.now.storage.table) k i 0 c.present_from-back.result (seg_live _ c.requires.segment) (omega arith) (omega arith) (omega arith)
+    can_charge (look c.args.self.now.storage.table) k i _ _ (seg_live _ c.requires.segment) (omega arith) (omega arith) (omega arith)
 
 pub drop_pages-requires-clause-index : goal.drop_pages-requires-clause-index
 drop_pages-requires-clause-index c = within_both c.args.self.now.storage c.charge.new.self c.args.segment c.charge.ensures.spare (seg_live _ c.requires.segment)

@@ -36,7 +36,7 @@ charge-requires g c =
     let few = c.missing-count.ensures.few in
     let is = counted g (goal.at.charge-requires g c).After-missing-count in
     let paid = c.requires.paid in
-    can_charge a k i c.missing-count.result 0 l (omega arith) (omega arith) (omega arith)
+    can_charge a k i _ _ l (omega arith) (omega arith) (omega arith)
 
 -- charging changes no page
 pages_charged : (g : Over) (c : After-charge g) → (look c.charge.new.self.table c.args.segment).page ≡ (look c.args.self.now.storage.table c.args.segment).page

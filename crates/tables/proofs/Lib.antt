@@ -1,7 +1,6 @@
 pub mod Items
 mod Upto
 pub mod Counts
-mod Countdown
 mod Looking
 mod Pushed
 pub mod Numbering

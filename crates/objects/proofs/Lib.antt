@@ -2,3 +2,4 @@ mod Charging
 mod Releasing
 mod Lacking
 mod Fresh
+mod Popped

@@ -10,6 +10,7 @@ use Rattle.forest.proofs.Paged.{page_self}
 use Rattle.forest.proofs.Serving.{page_taken}
 use Rattle.tables.specs.Objects.{look}
 use Rattle.tables.specs.Stacks.{stack_item, stack_height, stack_room}
+use Rattle.objects.proofs.Popped.{served_left}
 use Rattle.objects.proofs.slots.ensure_page.Goals as goal
 
 pub returns-in-Some : goal.returns-in-Some
@@ -54,6 +55,6 @@ returns-in-None c =
       room = c.pop-number.ensures.room;
       served =
           subst (λ (m : ℕ). ∥ Served m (stack_item c.pop-number.new.self) h b ∥₁) (sym c.pop-number.ensures.room)
-          (subst (λ (f : ℕ → ℕ). ∥ Served n f h b ∥₁) (sym c.pop-number.ensures.items)
+          (served_left (stack_item c.args.spare.now) (stack_item c.pop-number.new.self) h c.pop-number.ensures.items
           (∥∥₁_map was (page_taken a b n (stack_item c.args.spare.now) h i k (Some c.pop-number.result) (omega arith) c.requires.page c.set_page.ensures.after is (ap Some top))));
     }

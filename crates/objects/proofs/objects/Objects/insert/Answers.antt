@@ -9,6 +9,7 @@ use Rattle.tables.specs.Objects.{look}
 use Rattle.tables.specs.Stacks.{stack_height}
 use Rattle.tables.proofs.Within.{live_within}
 use Rattle.objects.proofs.Charging.{can_charge}
+use Rattle.objects.proofs.Popped.{kept_left}
 use Rattle.objects.proofs.objects.Objects.insert.Goals.{After-set_place}
 use Rattle.objects.proofs.objects.Objects.insert.Goals as goal
 
@@ -94,8 +95,9 @@ invariant_of-self c =
     record {
       sized = omega arith;
       roomy = c.pop-index.ensures.room ∙ c.args.self.now.roomy;
-      kept = insertion_kept c.args.self.now.kept c.args.directory c.args.place c.pop-index.result c.args.taken (body_of c.args.body) (written c)
-          _ _ c.pop-index.ensures.items c.pop-index.ensures.height c.pop-index.ensures.value c.requires.fit c.requires.cost c.requires.paid;
+      kept = kept_left _ _ _ c.pop-index.ensures.items
+          (insertion_kept c.args.self.now.kept c.args.directory c.args.place c.pop-index.result c.args.taken (body_of c.args.body) (written c)
+          _ _ refl c.pop-index.ensures.height c.pop-index.ensures.value c.requires.fit c.requires.cost c.requires.paid);
     }
 
 pub returns : goal.returns

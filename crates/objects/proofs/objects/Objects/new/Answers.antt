@@ -4,7 +4,9 @@ use Rattle.rules.specs.Tree.{Cell}
 use Rattle.forest.specs.Nodes.{Nodes, dir}
 use Rattle.forest.specs.Forest.{tree_of}
 use Rattle.tables.specs.Objects.{root_alone}
+use Rattle.tables.specs.Stacks.{stack_item}
 use Rattle.objects.proofs.Fresh.{fresh_tree, kept_as}
+use Rattle.objects.proofs.Popped.{left_below}
 use Rattle.objects.proofs.objects.Objects.new.Goals as goal
 
 pub invariant_of-result : goal.invariant_of-result
@@ -24,7 +26,7 @@ invariant_of-result c =
       sized = omega arith;
       roomy = omega arith;
       kept = ∣ kept_as c.args.root c.args.count room alone (omega arith) spare.height c.requires.few
-          (λ x h. let is = unused.items x (omega arith) in ap (λ f. f x) popped.items ∙ is ∙ omega arith)
+          (λ x h. let is = unused.items x (omega arith) in ap (λ f. f x) popped.items ∙ left_below (stack_item c.in_ok-unused.unused) _ x (omega arith) ∙ is ∙ omega arith)
           (λ x h. spare.items x h ∙ omega arith) ∣₁;
     }
 

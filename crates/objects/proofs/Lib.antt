@@ -3,4 +3,5 @@ mod Charging
 mod Counting
 mod Fresh
 mod Lacking
+mod Popped
 mod Storing

@@ -1,17 +1,17 @@
 -- What one read or write of a table of objects is to its nodes.
-use Rattle.std.proofs.Common.{◌≡◌, ℕ, ◌<◌, List, map, length, get_or, set, vec_items, Option, sym, ap, ◌∙◌, subst, arith}
+use Rattle.std.proofs.Common.{◌≡◌, ℕ, ◌<◌, List, map, length, get_or, set, vec_items, None, Option, sym, ap, ◌∙◌, subst, arith}
 use Rattle.std.proofs.lemmas.List.{map-set, get_or-map, length-map}
 use Rattle.rules.specs.Indexed.{assign}
 use Rattle.forest.specs.Nodes.{unused, Node, nowhere, with_entry, with_page, cleared}
 use Rattle.tables.specs.declared.body.Body.TheVariants.{Unused}
-use Rattle.tables.specs.declared.links.Links.{Links}
 use Rattle.tables.specs.declared.object.Object.{Object}
+use Rattle.tables.specs.declared.sixteen.Sixteen.{Sixteen}
 use Rattle.tables.specs.declared.table.Table.{Table}
 use Rattle.tables.specs.Bodies.{body_of}
-use Rattle.tables.specs.Links.{link, no_links, with_link}
+use Rattle.tables.specs.Links.{link, no_links}
 use Rattle.tables.specs.Objects.{node_of, view, look, table_size, change_at}
-use Rattle.tables.proofs.Items.{items_set}
-use Rattle.tables.proofs.Numbering.{link_assign}
+use Rattle.tables.specs.Sixteens.{with_value}
+use Rattle.tables.proofs.Items.{items_set, value_changed}
 
 table_long : (t : Table) (i : ℕ) → i < table_size t → i < length (vec_items t.objects)
 table_long t i h = let a = t.objects.ok.0 in omega arith
@@ -34,11 +34,11 @@ look_changed t i o o' f h e q = view_set (vec_items t.objects) i o' (table_long 
 
 -- Objects as nodes
 
-pub node_entry : (o : Object) (e : ℕ) (v : Option ℕ) → e < 16 → node_of (record { body = o.body; parent = o.parent; place = o.place; depth = o.depth; payer = o.payer; entries = with_link o.entries e v; pages = o.pages }) ≡ with_entry (node_of o) e v
-node_entry o e v h i = record { body = body_of o.body; parent = o.parent; place = o.place; depth = o.depth; payer = o.payer; entry = link_assign o.entries e v h i; page = link o.pages }
+pub node_entry : (o : Object) (e : ℕ) (v : Option ℕ) → e < 16 → node_of (record { body = o.body; parent = o.parent; place = o.place; depth = o.depth; payer = o.payer; entries = with_value o.entries e v; pages = o.pages }) ≡ with_entry (node_of o) e v
+node_entry o e v h i = record { body = body_of o.body; parent = o.parent; place = o.place; depth = o.depth; payer = o.payer; entry = value_changed o.entries e v None h i; page = link o.pages }
 
-pub node_page : (o : Object) (k : ℕ) (v : Option ℕ) → k < 16 → node_of (record { body = o.body; parent = o.parent; place = o.place; depth = o.depth; payer = o.payer; entries = o.entries; pages = with_link o.pages k v }) ≡ with_page (node_of o) k v
-node_page o k v h i = record { body = body_of o.body; parent = o.parent; place = o.place; depth = o.depth; payer = o.payer; entry = link o.entries; page = link_assign o.pages k v h i }
+pub node_page : (o : Object) (k : ℕ) (v : Option ℕ) → k < 16 → node_of (record { body = o.body; parent = o.parent; place = o.place; depth = o.depth; payer = o.payer; entries = o.entries; pages = with_value o.pages k v }) ≡ with_page (node_of o) k v
+node_page o k v h i = record { body = body_of o.body; parent = o.parent; place = o.place; depth = o.depth; payer = o.payer; entry = link o.entries; page = value_changed o.pages k v None h i }
 
-pub node_cleared : (o : Object) (entries pages : Links) → link entries ≡ no_links → link pages ≡ no_links → node_of (record { body = Unused; parent = o.parent; place = o.place; depth = o.depth; payer = o.payer; entries = entries; pages = pages }) ≡ cleared (node_of o)
+pub node_cleared : (o : Object) (entries pages : Sixteen (Option ℕ)) → link entries ≡ no_links → link pages ≡ no_links → node_of (record { body = Unused; parent = o.parent; place = o.place; depth = o.depth; payer = o.payer; entries = entries; pages = pages }) ≡ cleared (node_of o)
 node_cleared o entries pages p q i = record { body = unused; parent = o.parent; place = o.place; depth = o.depth; payer = o.payer; entry = p i; page = q i }

@@ -17,6 +17,7 @@ use Rattle.tables.specs.Objects.{look, table_size}
 use Rattle.tables.specs.Stacks.{stack_item, stack_height, stack_room}
 use Rattle.tables.proofs.Within.{live_within}
 use Rattle.objects.specs.declared.storage.Storage.{Storage}
+use Rattle.objects.specs.Storing.{IsStocked, IsServed, IsKept}
 
 -- no object has a page past the sixteenth
 abbrev pub Short : Nodes → Type 0
@@ -59,13 +60,12 @@ within_both s t i same live = let low = live_within s.table i live in let size =
 
 -- what storage keeps, where its objects are kept
 pub stored : (t : Table) (u s : Stack) → table_size t ≡ suc (stack_room s) → stack_room u ≡ suc (stack_room s)
-    → ∥ Kept (stack_room s) (look t) (stack_item u) (stack_height u) (stack_item s) (stack_height s) ∥₁
-    → record {
+    → IsKept t u s → record {
       sized : table_size t ≡ suc (stack_room s);
       roomy : stack_room u ≡ suc (stack_room s);
       short : Short (look t);
-      stocked : ∥ Stocked (stack_room s) (stack_item u) (stack_height u) (look t) ∥₁;
-      served : ∥ Served (stack_room s) (stack_item s) (stack_height s) (look t) ∥₁;
+      stocked : IsStocked t u s;
+      served : IsServed t s;
     }
 stored t u s size room k = record {
   sized = size;
@@ -81,8 +81,8 @@ pub stored_same : (s : Storage) (t : Table) → table_size t ≡ table_size s.ta
       sized : table_size t ≡ suc (stack_room s.spare);
       roomy : stack_room s.unused ≡ suc (stack_room s.spare);
       short : Short (look t);
-      stocked : ∥ Stocked (stack_room s.spare) (stack_item s.unused) (stack_height s.unused) (look t) ∥₁;
-      served : ∥ Served (stack_room s.spare) (stack_item s.spare) (stack_height s.spare) (look t) ∥₁;
+      stocked : IsStocked t s.unused s.spare;
+      served : IsServed t s.spare;
     }
 stored_same s t size pages lives = record {
   sized = size ∙ s.sized;

@@ -1,3 +1,4 @@
+pub mod Storing
 pub mod Views
 pub mod Writes
 pub mod VolumePages

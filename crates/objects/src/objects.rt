@@ -1,7 +1,5 @@
 //! The objects of a store.
-ghost use Rattle.forest.specs.Steps.{Kept};
-ghost use Rattle.tables.specs.Objects.{look};
-ghost use Rattle.tables.specs.Stacks.{stack_item, stack_height, stack_room};
+ghost use Rattle.objects.specs.Storing.{IsKept};
 
 use crate::storage::Storage;
 
@@ -9,5 +7,5 @@ use crate::storage::Storage;
 #[derive(Drop)]
 pub struct Objects {
     pub(crate) storage: Storage,
-    ghost kept: { ∥ Kept (stack_room storage.spare) (look storage.table) (stack_item storage.unused) (stack_height storage.unused) (stack_item storage.spare) (stack_height storage.spare) ∥₁ },
+    ghost kept: { IsKept storage.table storage.unused storage.spare },
 }

@@ -1,8 +1,8 @@
 //! Where a store keeps its objects.
 ghost use Rattle.std.specs.Prelude.{◌≡◌, ℕ, suc, ◌≤◌, None};
-ghost use Rattle.forest.specs.Spares.{Stocked, Served};
 ghost use Rattle.tables.specs.Objects.{look, table_size};
-ghost use Rattle.tables.specs.Stacks.{stack_item, stack_height, stack_room};
+ghost use Rattle.tables.specs.Stacks.{stack_room};
+ghost use Rattle.objects.specs.Storing.{IsStocked, IsServed};
 
 use tables::{Stack, Table};
 
@@ -23,6 +23,6 @@ pub(crate) struct Storage {
     ghost sized: { table_size table ≡ suc (stack_room spare) },
     ghost roomy: { stack_room unused ≡ suc (stack_room spare) },
     ghost short: { (i k : ℕ) → 16 ≤ k → (look table i).page k ≡ None },
-    ghost stocked: { ∥ Stocked (stack_room spare) (stack_item unused) (stack_height unused) (look table) ∥₁ },
-    ghost served: { ∥ Served (stack_room spare) (stack_item spare) (stack_height spare) (look table) ∥₁ },
+    ghost stocked: { IsStocked table unused spare },
+    ghost served: { IsServed table spare },
 }

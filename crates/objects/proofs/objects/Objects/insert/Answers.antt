@@ -2,7 +2,6 @@
 use Rattle.std.proofs.Common.{◌≡◌, ℕ, ◌+◌, ◌-◌, ◌<◌, ◌≤◌, cond, refl, ap, ◌∙◌, subst, arith}
 use Rattle.rules.specs.Indexed.{assign}
 use Rattle.forest.specs.Nodes.{with_place, celled}
-use Rattle.forest.specs.Steps.{Kept}
 use Rattle.forest.proofs.Depth.{dir_live}
 use Rattle.forest.proofs.Inserting.{top_unused, top_within, insertion, insertion_kept}
 use Rattle.forest.proofs.Keeping.{formed, payer_has_cell, left_granted, granted_small, few_records, object_free, depth_small}
@@ -12,6 +11,7 @@ use Rattle.tables.specs.Bodies.{body_of}
 use Rattle.tables.specs.Objects.{look, table_size, change_at}
 use Rattle.tables.specs.Stacks.{stack_item, stack_height, stack_room}
 use Rattle.tables.proofs.Within.{live_within}
+use Rattle.objects.specs.Storing.{IsKept}
 use Rattle.objects.proofs.Charging.{can_charge}
 use Rattle.objects.proofs.Popped.{kept_left}
 use Rattle.objects.proofs.Storing.{kept_over, spares_over, stored, within_both}
@@ -106,8 +106,7 @@ written c =
     c.charge.ensures.after c.set_entry.ensures.after c.set_body.ensures.after
     (c.set_place.ensures.after ∙ ap (λ (x : ℕ). change_at (look c.set_body.new.self) c.pop-index.result (λ n. with_place n c.args.directory c.args.place (x + 1) c.payer_of-payer.result)) c.depth-depth.ensures)
 
-kept : (c : After-set_place)
-    → ∥ Kept (stack_room c.charge.new.self.spare) (look c.set_place.new.self) (stack_item c.pop-index.new.self) (stack_height c.pop-index.new.self) (stack_item c.charge.new.self.spare) (stack_height c.charge.new.self.spare) ∥₁
+kept : (c : After-set_place) → IsKept c.set_place.new.self c.pop-index.new.self c.charge.new.self.spare
 kept c =
     let was = popped (goal.at.invariant_of-storage c).After-pop-index in
     kept_over {u = c.pop-index.new.self} {v = c.pop-index.new.self} (ap stack_room c.charge.ensures.spare) refl

@@ -2,7 +2,6 @@
 use Rattle.std.proofs.Common.{◌≡◌, sym, refl, ap, ◌∙◌, subst, arith}
 use Rattle.forest.specs.Nodes.{Node, Nodes}
 use Rattle.forest.specs.Forest.{cell_in}
-use Rattle.forest.specs.Steps.{Kept}
 use Rattle.forest.proofs.Bounds.{move_gives, payer_beside}
 use Rattle.forest.proofs.Depth.{dir_live}
 use Rattle.forest.proofs.Keeping.{formed, granted_small, few_records}
@@ -10,7 +9,8 @@ use Rattle.forest.proofs.Moving.{move, move_kept, charging_other}
 use Rattle.forest.proofs.Steps.{Move, move_done, move_stays}
 use Rattle.tables.specs.Cells.{CanRegrant}
 use Rattle.tables.specs.Objects.{look}
-use Rattle.tables.specs.Stacks.{stack_item, stack_height, stack_room}
+use Rattle.tables.specs.Stacks.{stack_room}
+use Rattle.objects.specs.Storing.{IsKept}
 use Rattle.objects.proofs.Charging.{can_charge}
 use Rattle.objects.proofs.Storing.{within_both, kept_over, spares_over, stored}
 use Rattle.objects.proofs.objects.Objects.move_quota.Goals.{After-regrant}
@@ -46,8 +46,7 @@ written c =
     move (look c.args.self.now.storage.table) (look c.charge.new.self.table) (look c.regrant.new.self) c.args.directory c.args.place c.args.child _ c.args.up c.args.down
     c.requires.there c.requires.cell refl c.charge.ensures.after c.regrant.ensures.after
 
-kept : (c : After-regrant)
-    → ∥ Kept (stack_room c.charge.new.self.spare) (look c.regrant.new.self) (stack_item c.charge.new.self.unused) (stack_height c.charge.new.self.unused) (stack_item c.charge.new.self.spare) (stack_height c.charge.new.self.spare) ∥₁
+kept : (c : After-regrant) → IsKept c.regrant.new.self c.charge.new.self.unused c.charge.new.self.spare
 kept c =
     kept_over (ap stack_room c.charge.ensures.spare) c.charge.ensures.unused
     (spares_over c.charge.ensures.spare (move_kept c.args.self.now.kept c.args.directory c.args.place c.args.child c.args.up c.args.down (written c) c.requires.paid c.requires.owed))

@@ -3,10 +3,10 @@ use Rattle.std.proofs.Common.{◌≡◌, Some, ap, ◌∙◌, arith}
 use Rattle.rules.specs.Tree.{Cell}
 use Rattle.forest.specs.Nodes.{Nodes, dir}
 use Rattle.forest.specs.Forest.{tree_of}
-use Rattle.forest.specs.Steps.{Kept}
 use Rattle.tables.specs.Cells.{full_cell}
 use Rattle.tables.specs.Objects.{look, root_alone}
-use Rattle.tables.specs.Stacks.{stack_item, stack_height, stack_room}
+use Rattle.tables.specs.Stacks.{stack_item}
+use Rattle.objects.specs.Storing.{IsKept}
 use Rattle.objects.proofs.Fresh.{fresh_tree, kept_as}
 use Rattle.objects.proofs.Popped.{left_below}
 use Rattle.objects.proofs.Storing.{stored}
@@ -16,8 +16,7 @@ use Rattle.objects.proofs.objects.Objects.new.Goals as goal
 alone : (c : In_ok-table) → look c.in_ok-table.table ≡ root_alone (dir c.args.root (Some (full_cell c.args.count)))
 alone c = c.in_ok-table.ensures.nodes ∙ ap (λ (x : Cell). root_alone (dir c.args.root (Some x))) c.new-cell.ensures
 
-kept : (c : In_ok-table)
-    → ∥ Kept (stack_room c.in_ok-spare.spare) (look c.in_ok-table.table) (stack_item c.pop.new.self) (stack_height c.pop.new.self) (stack_item c.in_ok-spare.spare) (stack_height c.in_ok-spare.spare) ∥₁
+kept : (c : In_ok-table) → IsKept c.in_ok-table.table c.pop.new.self c.in_ok-spare.spare
 kept c =
     let spare = c.in_ok-spare.ensures in
     let unused = c.in_ok-unused.ensures in

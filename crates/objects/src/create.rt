@@ -27,11 +27,7 @@ fn payer_of(body: Body, index: usize, above: usize) -> usize
 fn new_cell(grant: u32) -> Option<Cell>
     ensures { option_map cell_of result ≡ new_cell grant }
 {
-    if grant == 0 {
-        None
-    } else {
-        Some(Cell::new(grant))
-    }
+    (grant != 0).then(|| Cell::new(grant))
 }
 
 impl Objects {

@@ -9,37 +9,27 @@ use crate::extent::Extent;
 use crate::volume_page::VolumePage;
 use volumes::{PAGE_WORDS, Volume};
 
-/// The word at `at` of a segment, which is word `word` of a volume page, after the words of the extent were written.
-fn new_word<V: Volume>(
-    volume: &V,
-    page: VolumePage,
-    word: usize,
-    at: usize,
-    extent: Extent<'_>,
-) -> u32
-    requires number { number_of page < pages_in (V.Volume.words volume.now) }
-    requires word { word < 16 }
-    ensures { result ≡ word_over extent.entry.first extent.entry.words.now at (if is_fresh page then 0 else told (V.Volume.words volume.now) (number_of page * 16 + word)) }
-{
-    extent.word(at).unwrap_or(page.word(volume, word))
-}
+impl VolumePage {
+    /// The word at `at` of a segment, which is word `word` of the page, after the words of the extent were written.
+    fn new_word<V: Volume>(self, volume: &V, word: usize, at: usize, extent: Extent<'_>) -> u32
+        requires number { number_of self < pages_in (V.Volume.words volume.now) }
+        requires word { word < 16 }
+        ensures { result ≡ word_over extent.entry.first extent.entry.words.now at (if is_fresh self then 0 else told (V.Volume.words volume.now) (number_of self * 16 + word)) }
+    {
+        extent.word(at).unwrap_or_else(|| self.word(volume, word))
+    }
 
-/// Puts the words that fall into page `number` of a segment into the volume page that serves it. A fresh page has zeros
-/// elsewhere.
-pub(crate) fn write_page<V: Volume>(
-    volume: &mut V,
-    page: VolumePage,
-    number: usize,
-    extent: Extent<'_>,
-)
-    requires inside { number_of page < pages_in (V.Volume.words volume.old) }
-    requires number { number < 16 }
-    ensures pages { pages_in (V.Volume.words volume.new) ≡ pages_in (V.Volume.words volume.old) }
-    ensures words { (x : ℕ) → told (V.Volume.words volume.new) x ≡ page_written (told (V.Volume.words volume.old)) (number_of page) (is_fresh page) number extent.entry.first extent.entry.words.now 16 x }
-{
-    let into = page.number();
-    for word in 0..PAGE_WORDS {
-        let value = new_word(volume, page, word, PAGE_WORDS * number + word, extent);
-        let _ = volume.write(into, word, value);
+    /// Puts the words that fall into page `page` of a segment, which it serves, into it. A fresh page has zeros elsewhere.
+    pub(crate) fn write<V: Volume>(self, volume: &mut V, page: usize, extent: Extent<'_>)
+        requires inside { number_of self < pages_in (V.Volume.words volume.old) }
+        requires page { page < 16 }
+        ensures pages { pages_in (V.Volume.words volume.new) ≡ pages_in (V.Volume.words volume.old) }
+        ensures words { (x : ℕ) → told (V.Volume.words volume.new) x ≡ page_written (told (V.Volume.words volume.old)) (number_of self) (is_fresh self) page extent.entry.first extent.entry.words.now 16 x }
+    {
+        let number = self.number();
+        for word in 0..PAGE_WORDS {
+            let value = self.new_word(volume, word, PAGE_WORDS * page + word, extent);
+            let _ = volume.write(number, word, value);
+        }
     }
 }

@@ -13,7 +13,6 @@ ghost use Rattle.objects.specs.Writes.{told, lacks, one_written};
 use crate::extent::Extent;
 use crate::storage::Storage;
 use crate::storage::pages::PAGES;
-use crate::words::write_page;
 use volumes::Volume;
 
 impl Storage {
@@ -58,8 +57,7 @@ impl Storage {
         ensures beyond { (x : ℕ) → 16 * stack_room self.old.spare ≤ x → told (V.Volume.words volume.new) x ≡ told (V.Volume.words volume.old) x }
     {
         if extent.touches(page) {
-            let volume_page = self.ensure_page(index, page);
-            write_page(volume, volume_page, page, extent);
+            self.ensure_page(index, page).write(volume, page, extent);
         }
     }
 

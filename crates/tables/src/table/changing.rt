@@ -2,9 +2,10 @@
 ghost use Rattle.std.specs.Prelude.{◌≡◌, ◌<◌};
 ghost use Rattle.forest.specs.Nodes.{with_body, with_entry, with_page, with_place, cleared, charged_body, regranted_body};
 ghost use Rattle.forest.specs.Forest.{cell_at};
+ghost use Rattle.tables.specs.declared.body.Body.{Body};
 ghost use Rattle.tables.specs.Cells.{CanCharge, CanRegrant};
 ghost use Rattle.tables.specs.Bodies.{body_of};
-ghost use Rattle.tables.specs.Objects.{look, table_size, change_at};
+ghost use Rattle.tables.specs.Objects.{look, table_size, change_at, ChangesBody};
 
 use crate::body::Body;
 use crate::table::Table;
@@ -26,8 +27,7 @@ impl Table {
         ensures after { look self.new ≡ change_at (look self.old) index (λ n. with_body n (charged_body taken back n.body)) }
         ensures size { table_size self.new ≡ table_size self.old }
     {
-        let body = self.body(index).charged(taken, back);
-        self.set_body(index, body);
+        self.change_body(index, |body| body.charged(taken, back));
     }
 
     /// Raises and lowers the grant of the object's cell, if it has one, and what is left.
@@ -37,8 +37,7 @@ impl Table {
         ensures after { look self.new ≡ change_at (look self.old) index (λ n. with_body n (regranted_body up down n.body)) }
         ensures size { table_size self.new ≡ table_size self.old }
     {
-        let body = self.body(index).regranted(up, down);
-        self.set_body(index, body);
+        self.change_body(index, |body| body.regranted(up, down));
     }
 
     /// Says where the object lies and whose cell it uses.
@@ -91,5 +90,15 @@ impl Table {
         object.body = Body::Unused;
         object.entries.clear();
         object.pages.clear();
+    }
+
+    /// Changes what the object is.
+    fn change_body<F: FnOnce(Body) -> Body>(&mut self, index: usize, change: F)
+        requires index { index < table_size self.old }
+        requires call { (body : Body) → body_of body ≡ (look self.old index).body → F.pre change body }
+        ensures { ChangesBody (F.post change) self.old self.new index }
+    {
+        let body = change(self.body(index));
+        self.set_body(index, body);
     }
 }

@@ -33,11 +33,15 @@ change_at a i f = assign a i (f (a i))
 abbrev pub root_alone : forest.Body → Nodes
 root_alone b = assign (λ _. nowhere) 0 (with_body nowhere b)
 
--- the objects, but with another body at i, to which R relates the one that was there
+-- the table, but f of what is at i, and as many objects as before
+pub record Changed (old new : Table) (i : ℕ) (f : Node → Node) : Type 0 where
+  pub after : look new ≡ change_at (look old) i f
+  pub size : table_size new ≡ table_size old
+
+-- the table, but with another body at i, to which R relates the one that was there
 pub record ChangesBody (R : Body → Body → Type 0) (old new : Table) (i : ℕ) : Type 0 where
   pub was : Body
   pub is : Body
   pub read : body_of was ≡ (look old i).body
   pub related : R was is
-  pub after : look new ≡ change_at (look old) i (λ n. with_body n (body_of is))
-  pub size : table_size new ≡ table_size old
+  pub changed : Changed old new i (λ n. with_body n (body_of is))

@@ -10,14 +10,14 @@ use crate::cell::Cell;
 use labels::Label;
 
 /// A directory's label, and its cell if it has one.
-#[derive(Clone, Copy, Drop)]
+#[derive(Clone, Copy, PartialEq, Eq, Debug)]
 pub struct Directory {
     pub label: Label,
     pub cell: Option<Cell>,
 }
 
 /// What an object is: not in use, a segment or a directory.
-#[derive(Clone, Copy, Drop)]
+#[derive(Clone, Copy, PartialEq, Eq, Debug)]
 pub enum Body {
     Unused,
     Segment,

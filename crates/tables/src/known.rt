@@ -3,7 +3,7 @@ ghost use Rattle.std.specs.Prelude.{◌≡◌};
 ghost use Rattle.tables.specs.Forgotten.{forgotten};
 
 /// What a known number stands for: nothing yet, an object, or one that is no more.
-#[derive(Clone, Copy, Drop)]
+#[derive(Clone, Copy, PartialEq, Eq, Debug)]
 pub enum Known {
     Free,
     Means(usize),

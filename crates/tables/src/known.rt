@@ -16,14 +16,8 @@ impl Known {
         ensures { result ≡ forgotten marks.now self }
     {
         match self {
-            Known::Means(object) => {
-                if object < marks.len() && marks[object] {
-                    Known::Gone
-                } else {
-                    self
-                }
-            }
-            Known::Free | Known::Gone => self,
+            Known::Means(object) if marks.get(object).copied().unwrap_or(false) => Known::Gone,
+            Known::Free | Known::Means(_) | Known::Gone => self,
         }
     }
 }

@@ -16,8 +16,8 @@ fn counts_down(rt: HostRuntime) -> Result<(), Fail> {
 #[test]
 fn makes_known_numbers(rt: HostRuntime) -> Result<(), Fail> {
     let known = KnownTable::new();
-    assert!(rt; matches!(known.find(0), Known::Means(0)));
-    assert!(rt; matches!(known.find(15), Known::Free));
+    assert_eq!(rt; known.find(0), Known::Means(0));
+    assert_eq!(rt; known.find(15), Known::Free);
     Ok(())
 }
 

@@ -1,6 +1,8 @@
 -- What one read or write of a table of objects is to its nodes.
-use Rattle.std.proofs.Common.{◌≡◌, ℕ, ◌<◌, List, map, length, get_or, set, vec_items, None, Option, sym, ap, ◌∙◌, subst, arith}
+use Rattle.std.proofs.Common.{◌≡◌, ℕ, ◌<◌, List, map, length, get_or, set, vec_items, vec_len, Vec, None, Option, sym, ap, ◌∙◌, subst, arith}
 use Rattle.std.proofs.lemmas.List.{map-set, get_or-map, length-map}
+use Rattle.std.specs.Vec.{with_item}
+use Rattle.std.specs.declared.alloc.Global.{Global}
 use Rattle.rules.specs.Indexed.{assign}
 use Rattle.forest.specs.Nodes.{unused, Node, nowhere, with_entry, with_page, cleared}
 use Rattle.tables.specs.declared.body.Body.TheVariants.{Unused}
@@ -9,7 +11,7 @@ use Rattle.tables.specs.declared.sixteen.Sixteen.{Sixteen}
 use Rattle.tables.specs.declared.table.Table.{Table}
 use Rattle.tables.specs.Bodies.{body_of}
 use Rattle.tables.specs.Links.{link, no_links}
-use Rattle.tables.specs.Objects.{node_of, view, look, table_size, change_at}
+use Rattle.tables.specs.Objects.{node_of, view, look, table_size, Changed}
 use Rattle.tables.specs.Sixteens.{with_value}
 use Rattle.tables.proofs.Items.{items_set, value_changed}
 
@@ -29,8 +31,11 @@ pub looked : (t : Table) (i : ℕ) (o : Object) → i < table_size t → o ≡ g
 looked t i o h e = sym (view_read (vec_items t.objects) i o (table_long t i h) e)
 
 -- o was read at i, and became o', which as a node is f of it
-pub look_changed : (t : Table) (i : ℕ) (o o' : Object) (f : Node → Node) → i < table_size t → o ≡ get_or (vec_items t.objects) i o → node_of o' ≡ f (node_of o) → view (set (vec_items t.objects) i o') ≡ change_at (look t) i f
-look_changed t i o o' f h e q = view_set (vec_items t.objects) i o' (table_long t i h) ∙ ap (assign (look t) i) (q ∙ ap f (looked t i o h e))
+pub changed_at : (t u : Table) (i : ℕ) (o o' : Object) (f : Node → Node) → i < table_size t → o ≡ get_or (vec_items t.objects) i o → u.objects ≡ with_item t.objects i o' → node_of o' ≡ f (node_of o) → Changed t u i f
+changed_at t u i o o' f h e is q = record {
+  after = ap (λ (v : Vec Object Global). view (vec_items v)) is ∙ view_set (vec_items t.objects) i o' (table_long t i h) ∙ ap (assign (look t) i) (q ∙ ap f (looked t i o h e));
+  size = ap (λ (v : Vec Object Global). vec_len v) is;
+}
 
 -- Objects as nodes
 

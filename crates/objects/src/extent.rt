@@ -6,7 +6,7 @@ ghost use Rattle.forest.specs.Words.{word_over};
 use volumes::PAGE_WORDS;
 
 /// Words for a segment, of which the first is to be its word `first`.
-#[derive(Clone, Copy, Drop)]
+#[derive(Clone, Copy)]
 pub(crate) struct Extent<'a> {
     pub(crate) first: usize,
     pub(crate) words: &'a [u32],

@@ -7,7 +7,7 @@ ghost use Rattle.objects.specs.Writes.{told};
 use volumes::Volume;
 
 /// The page of a volume that serves a page of a segment: it has done so, or it begins to, and then counts as zeros.
-#[derive(Clone, Copy, Drop)]
+#[derive(Clone, Copy, PartialEq, Eq, Debug)]
 pub(crate) enum VolumePage {
     Held(usize),
     Fresh(usize),

@@ -3,8 +3,9 @@ ghost use Rattle.std.specs.Prelude.{◌≡◌, ℕ, ◌+◌, ◌-◌, ◌<◌, �
 ghost use Rattle.rules.specs.Indexed.{sum};
 ghost use Rattle.forest.specs.Nodes.{with_page, with_pages};
 ghost use Rattle.forest.specs.Forest.{has, cut_links};
-ghost use Rattle.tables.specs.Objects.{look, table_size, change_at};
+ghost use Rattle.tables.specs.Objects.{look, table_size};
 ghost use Rattle.tables.specs.Stacks.{stack_height, stack_room};
+ghost use Rattle.objects.specs.PageChanges.{ChangesPages};
 ghost use Rattle.objects.specs.VolumePages.{number_of, is_fresh};
 
 use crate::storage::Storage;
@@ -29,9 +30,7 @@ impl Storage {
     fn drop_page(&mut self, index: usize, page: usize)
         requires index { index < table_size self.old.table }
         requires page { page < 16 }
-        ensures after { look self.new.table ≡ change_at (look self.old.table) index (λ n. with_page n page None) }
-        ensures unused { self.new.unused ≡ self.old.unused }
-        ensures room { stack_room self.new.spare ≡ stack_room self.old.spare }
+        ensures { ChangesPages self.old self.new index (λ n. with_page n page None) }
     {
         if let Some(number) = self.table.page(index, page) {
             self.table.set_page(index, page, None);
@@ -43,9 +42,7 @@ impl Storage {
     pub(crate) fn drop_pages(&mut self, index: usize, keep: usize)
         requires index { index < table_size self.old.table }
         requires keep { keep ≤ 16 }
-        ensures after { look self.new.table ≡ change_at (look self.old.table) index (λ n. with_pages n (cut_links keep n.page)) }
-        ensures unused { self.new.unused ≡ self.old.unused }
-        ensures room { stack_room self.new.spare ≡ stack_room self.old.spare }
+        ensures { ChangesPages self.old self.new index (λ n. with_pages n (cut_links keep n.page)) }
     {
         for page in keep..PAGES {
             self.drop_page(index, page);
@@ -59,10 +56,8 @@ impl Storage {
         requires enough { 1 - has ((look self.old.table index).page page) ≤ stack_height self.old.spare }
         ensures low { number_of result < stack_room self.old.spare }
         ensures was { (look self.old.table index).page page ≡ (if is_fresh result then None else Some (number_of result)) }
-        ensures after { look self.new.table ≡ change_at (look self.old.table) index (λ n. with_page n page (Some (number_of result))) }
+        ensures changed { ChangesPages self.old self.new index (λ n. with_page n page (Some (number_of result))) }
         ensures height { stack_height self.new.spare + (1 - has ((look self.old.table index).page page)) ≡ stack_height self.old.spare }
-        ensures unused { self.new.unused ≡ self.old.unused }
-        ensures room { stack_room self.new.spare ≡ stack_room self.old.spare }
     {
         match self.table.page(index, page) {
             Some(number) => VolumePage::Held(number),

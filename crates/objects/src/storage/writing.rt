@@ -6,8 +6,9 @@ ghost use Rattle.rules.specs.Indexed.{sum};
 ghost use Rattle.rules.specs.Segments.{touched, pages_written};
 ghost use Rattle.forest.specs.Nodes.{with_pages};
 ghost use Rattle.forest.specs.Forest.{pages_of};
-ghost use Rattle.tables.specs.Objects.{look, table_size, change_at};
+ghost use Rattle.tables.specs.Objects.{look, table_size};
 ghost use Rattle.tables.specs.Stacks.{stack_height, stack_room};
+ghost use Rattle.objects.specs.PageChanges.{ChangesPages};
 ghost use Rattle.objects.specs.Writes.{told, lacks, one_written};
 
 use crate::extent::Extent;
@@ -47,10 +48,8 @@ impl Storage {
         requires page { page < 16 }
         requires volume { stack_room self.old.spare ≤ pages_in (V.Volume.words volume.old) }
         requires enough { lacks extent.first (length extent.words.now) (look self.old.table index).page page ≤ stack_height self.old.spare }
-        ensures after { look self.new.table ≡ change_at (look self.old.table) index (λ n. with_pages n (look self.new.table index).page) }
+        ensures changed { ChangesPages self.old self.new index (λ n. with_pages n (look self.new.table index).page) }
         ensures height { stack_height self.new.spare + lacks extent.entry.first (length extent.entry.words.now) (look self.old.table index).page page ≡ stack_height self.old.spare }
-        ensures unused { self.new.unused ≡ self.old.unused }
-        ensures room { stack_room self.new.spare ≡ stack_room self.old.spare }
         ensures own { pages_of (told (V.Volume.words volume.new)) (look self.new.table index).page ≡ one_written (pages_of (told (V.Volume.words volume.old)) (look self.old.table index).page) extent.entry.first extent.entry.words.now page }
         ensures others { (j : ℕ) → (j ≢ index) → pages_of (told (V.Volume.words volume.new)) (look self.new.table j).page ≡ pages_of (told (V.Volume.words volume.old)) (look self.old.table j).page }
         ensures pages { pages_in (V.Volume.words volume.new) ≡ pages_in (V.Volume.words volume.old) }
@@ -71,9 +70,7 @@ impl Storage {
         requires index { index < table_size self.old.table }
         requires volume { stack_room self.old.spare ≤ pages_in (V.Volume.words volume.old) }
         requires enough { sum 16 (lacks extent.first (length extent.words.now) (look self.old.table index).page) ≤ stack_height self.old.spare }
-        ensures after { look self.new.table ≡ change_at (look self.old.table) index (λ n. with_pages n (look self.new.table index).page) }
-        ensures unused { self.new.unused ≡ self.old.unused }
-        ensures room { stack_room self.new.spare ≡ stack_room self.old.spare }
+        ensures changed { ChangesPages self.old self.new index (λ n. with_pages n (look self.new.table index).page) }
         ensures own { pages_of (told (V.Volume.words volume.new)) (look self.new.table index).page ≡ pages_written (pages_of (told (V.Volume.words volume.old)) (look self.old.table index).page) extent.entry.first extent.entry.words.now }
         ensures others { (j : ℕ) → (j ≢ index) → pages_of (told (V.Volume.words volume.new)) (look self.new.table j).page ≡ pages_of (told (V.Volume.words volume.old)) (look self.old.table j).page }
         ensures pages { pages_in (V.Volume.words volume.new) ≡ pages_in (V.Volume.words volume.old) }

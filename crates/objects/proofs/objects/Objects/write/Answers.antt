@@ -63,16 +63,16 @@ written : (g : Over) (c : After-write_words g)
 written g c =
     writing (look c.args.self.now.storage.table) (look c.charge.new.self.table) (look c.write_words.new.self.table) (told (g.V.Volume.words c.args.volume.now)) (told (g.V.Volume.words c.write_words.new.volume))
     c.args.segment _ c.missing-count.result c.args.first c.args.words.now
-    c.requires.segment c.requires.small refl c.charge.ensures.after c.write_words.ensures.after c.write_words.ensures.own c.write_words.ensures.others
+    c.requires.segment c.requires.small refl c.charge.ensures.after c.write_words.ensures.changed.after c.write_words.ensures.own c.write_words.ensures.others
 
 pub invariant_of-self : goal.invariant_of-self
 invariant_of-self g c =
     let s = c.write_words.new.self in
-    let room = c.write_words.ensures.room ∙ ap stack_room c.charge.ensures.spare in
+    let room = c.write_words.ensures.changed.room ∙ ap stack_room c.charge.ensures.spare in
     let is = counted g (goal.at.invariant_of-self g c).After-missing-count in
     let paid = c.requires.paid in
     record {
-      kept = kept_over room (c.write_words.ensures.unused ∙ c.charge.ensures.unused)
+      kept = kept_over room (c.write_words.ensures.changed.unused ∙ c.charge.ensures.unused)
           (writing_kept c.args.self.now.kept c.args.segment c.missing-count.result c.args.first c.args.words.now (written g (goal.at.invariant_of-self g c).After-write_words)
           (stack_item s.spare) (stack_height s.spare) (omega arith) is (served_as (sym room) refl refl s.served));
     }
@@ -90,7 +90,7 @@ returns g c =
       value = counted g (goal.at.returns g c).After-missing-count;
       tree = writing_tree _ _ _ _ s c.args.segment c.missing-count.result c.args.first c.args.words.now i;
       stays = writing_stays _ _ _ _ s c.args.segment c.missing-count.result c.args.first c.args.words.now i;
-      records = e.room ∙ room;
+      records = e.changed.room ∙ room;
       length = after ∙ ap (λ n. n * 16) same ∙ sym before;
       beyond = λ x l. e.beyond x (subst (λ (n : ℕ). 16 * n ≤ x) (sym room) l);
     }

@@ -28,9 +28,13 @@ loop-page-preserved c =
       room = c.drop_page.ensures.room ∙ inv.room;
     }
 
-pub returns-clause-after : goal.returns-clause-after
-returns-clause-after c =
+pub returns : goal.returns
+returns c =
     let a = look c.args.self.now.table in
     let i = c.args.index in
-    c.loop-page.invariant.after
-    ∙ ap (λ (ps : ℕ → Option ℕ). assign a i (with_pages (a i) ps)) (cut_end c.args.keep c.loop-page.page (a i).page (omega arith) (c.args.self.now.short i))
+    let inv = c.loop-page.invariant in
+    record {
+      after = inv.after ∙ ap (λ (ps : ℕ → Option ℕ). assign a i (with_pages (a i) ps)) (cut_end c.args.keep c.loop-page.page (a i).page (omega arith) (c.args.self.now.short i));
+      unused = inv.unused;
+      room = inv.room;
+    }

@@ -10,9 +10,14 @@ use Rattle.objects.specs.VolumePages.{number_of, is_fresh}
 use Rattle.objects.specs.Writes.{told}
 use Rattle.objects.proofs.storage.Storage.write_one.Goals as goal
 
-pub returns-then-touches-clause-after : goal.returns-then-touches-clause-after
-returns-then-touches-clause-after g c =
-    slot_pages (look c.args.self.now.table) (look c.ensure_page.new.self.table) c.args.index c.args.page (Some (number_of c.ensure_page.result)) c.ensure_page.ensures.after
+pub returns-then-touches-clause-changed : goal.returns-then-touches-clause-changed
+returns-then-touches-clause-changed g c =
+    let e = c.ensure_page.ensures.changed in
+    record {
+      after = slot_pages (look c.args.self.now.table) (look c.ensure_page.new.self.table) c.args.index c.args.page (Some (number_of c.ensure_page.result)) e.after;
+      unused = e.unused;
+      room = e.room;
+    }
 
 pub returns-then-touches-clause-own : goal.returns-then-touches-clause-own
 returns-then-touches-clause-own g c =
@@ -26,7 +31,7 @@ returns-then-touches-clause-own g c =
     let ds = c.args.extent.words.now in
     let v = told (g.V.Volume.words c.args.volume.now) in
     let ps : Pages = pages_of v (a i).page in
-    one_page a (look s.table) i k (number_of page) first ds (is_fresh page) v (told (g.V.Volume.words c.write.new.volume)) e.after (served_alone s.served) e.was c.write.ensures.words
+    one_page a (look s.table) i k (number_of page) first ds (is_fresh page) v (told (g.V.Volume.words c.write.new.volume)) e.changed.after (served_alone s.served) e.was c.write.ensures.words
     ∙ ap (λ (t : Bool). cond t (assign ps k (present (tabulate 16 (λ j. word_after ps first ds (16 * k + j))))) ps) c.if-touches.ensures
 
 pub returns-then-touches-clause-others : goal.returns-then-touches-clause-others
@@ -35,4 +40,4 @@ returns-then-touches-clause-others g c =
     let page = c.ensure_page.result in
     let e = c.ensure_page.ensures in
     one_others (look c.args.self.now.table) (look s.table) c.args.index c.args.page (number_of page) c.args.extent.first c.args.extent.words.now (is_fresh page)
-    (told (g.V.Volume.words c.args.volume.now)) (told (g.V.Volume.words c.write.new.volume)) e.after (served_alone s.served) e.was c.write.ensures.words
+    (told (g.V.Volume.words c.args.volume.now)) (told (g.V.Volume.words c.write.new.volume)) e.changed.after (served_alone s.served) e.was c.write.ensures.words

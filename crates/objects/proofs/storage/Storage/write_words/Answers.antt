@@ -15,10 +15,8 @@ use Rattle.objects.proofs.storage.Storage.write_words.Goals as goal
 pub loop-page-init : goal.loop-page-init
 unfolding sum
 loop-page-init g c = record {
-  after = page_self (look c.args.self.now.table) c.args.index _ refl;
-  unused = refl;
+  changed = record { after = page_self (look c.args.self.now.table) c.args.index _ refl; unused = refl; room = refl };
   height = omega arith;
-  room = refl;
   own = upto_none (pages_of (told (g.V.Volume.words c.args.volume.now)) (look c.args.self.now.table c.args.index).page) c.args.extent.first c.args.extent.words.now;
   others = λ j _. refl;
   pages = refl;
@@ -38,7 +36,7 @@ write_one-requires g c =
     let size = c.args.self.now.sized in
     let size' = c.loop-page.self.sized in
     let fits = c.requires.volume in
-    let room = inv.room in
+    let room = inv.changed.room in
     let pages = inv.pages in
     let all = c.requires.enough in
     let height = inv.height in
@@ -69,14 +67,16 @@ loop-page-preserved g c =
     let next = sum_next k (lacks first (length ds) (a i).page) in
     let same = still_lacks v w (a i).page (b i).page first ds k inv.own in
     record {
-      after = pages_again a b b' i (b i).page (b' i).page inv.after e.after;
-      unused = e.unused ∙ inv.unused;
+      changed = record {
+        after = pages_again a b b' i (b i).page (b' i).page inv.changed.after e.changed.after;
+        unused = e.changed.unused ∙ inv.changed.unused;
+        room = e.changed.room ∙ inv.changed.room;
+      };
       height = omega arith;
-      room = e.room ∙ inv.room;
       own = e.own ∙ upto_step (pages_of v (a i).page) (pages_of w (b i).page) first ds k inv.own;
       others = λ j ne. e.others j ne ∙ inv.others j ne;
       pages = e.pages ∙ inv.pages;
-      beyond = λ x l. e.beyond x (subst (λ (m : ℕ). 16 * m ≤ x) (sym inv.room) l) ∙ inv.beyond x l;
+      beyond = λ x l. e.beyond x (subst (λ (m : ℕ). 16 * m ≤ x) (sym inv.changed.room) l) ∙ inv.beyond x l;
     }
 
 pub returns-clause-own : goal.returns-clause-own

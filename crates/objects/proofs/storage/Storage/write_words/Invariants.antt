@@ -5,18 +5,17 @@ use Rattle.rules.specs.Indexed.{sum}
 use Rattle.forest.specs.Nodes.{with_pages}
 use Rattle.forest.specs.Forest.{pages_of}
 use Rattle.forest.proofs.Write.{written_upto}
-use Rattle.tables.specs.Objects.{look, change_at}
+use Rattle.tables.specs.Objects.{look}
 use Rattle.tables.specs.Stacks.{stack_height, stack_room}
+use Rattle.objects.specs.PageChanges.{ChangesPages}
 use Rattle.objects.specs.Writes.{told, lacks}
 use Rattle.objects.proofs.storage.Storage.write_words.Given as goal
 
 -- the pages still to be taken are on the stack
 abbrev pub invariant-loop-page : goal.invariant-loop-page
 invariant-loop-page g l = record {
-  after : look l.self.table ≡ change_at (look l.initial.self.table) l.index (λ n. with_pages n (look l.self.table l.index).page);
-  unused : l.self.unused ≡ l.initial.self.unused;
+  changed : ChangesPages l.initial.self l.self l.index (λ n. with_pages n (look l.self.table l.index).page);
   height : stack_height l.self.spare + sum l.page (lacks l.extent.first (length l.extent.words.now) (look l.initial.self.table l.index).page) ≡ stack_height l.initial.self.spare;
-  room : stack_room l.self.spare ≡ stack_room l.initial.self.spare;
   own : pages_of (told (g.V.Volume.words l.volume)) (look l.self.table l.index).page ≡ written_upto l.page (pages_of (told (g.V.Volume.words l.initial.volume)) (look l.initial.self.table l.index).page) l.extent.first l.extent.words.now;
   others : (j : ℕ) → (j ≡ l.index → ⊥) → pages_of (told (g.V.Volume.words l.volume)) (look l.self.table j).page ≡ pages_of (told (g.V.Volume.words l.initial.volume)) (look l.initial.self.table j).page;
   pages : pages_in (g.V.Volume.words l.volume) ≡ pages_in (g.V.Volume.words l.initial.volume);

@@ -4,15 +4,7 @@ use Rattle.forest.specs.Nodes.{IsLive, Under, itself, above}
 use Rattle.forest.proofs.Beneath.{under_up, parent_live, parent_depth}
 use Rattle.forest.proofs.Keeping.{formed}
 use Rattle.tables.specs.Objects.{look}
-use Rattle.tables.proofs.Within.{live_within}
 use Rattle.objects.proofs.objects.Objects.lies_under.Goals as goal
-
-pub returns-then-at-eq0 : goal.returns-then-at-eq0
-returns-then-at-eq0 c u =
-    (under_up (look c.args.self.now.storage.table) c.args.top c.loop-at.at (c.loop-at.invariant.2 u) c.loop-at-test.true).0 c.if-at-eq0.true
-
-pub parent-at-requires : goal.parent-at-requires
-parent-at-requires c = live_within c.args.self.now.storage.table c.loop-at.at c.loop-at.invariant.0
 
 pub loop-at-smaller : goal.loop-at-smaller
 loop-at-smaller c =

@@ -8,14 +8,10 @@ use Rattle.forest.proofs.Steps.{Truncation, truncation_done, truncation_stays}
 use Rattle.forest.proofs.Truncate.{dropped_links}
 use Rattle.tables.specs.Objects.{look}
 use Rattle.tables.specs.Stacks.{stack_item, stack_height, stack_room}
-use Rattle.tables.proofs.Within.{live_within}
 use Rattle.objects.proofs.Charging.{can_charge}
-use Rattle.objects.proofs.Storing.{kept_over, served_as, within_both}
+use Rattle.objects.proofs.Storing.{kept_over, served_as}
 use Rattle.objects.proofs.objects.Objects.truncate.Goals.{After-drop_pages}
 use Rattle.objects.proofs.objects.Objects.truncate.Goals as goal
-
-pub present_from-back-requires-clause-index : goal.present_from-back-requires-clause-index
-present_from-back-requires-clause-index c = live_within c.args.self.now.storage.table c.args.segment (seg_live _ c.requires.segment)
 
 pub charge-requires : goal.charge-requires
 charge-requires c =
@@ -23,9 +19,6 @@ charge-requires c =
     let i = c.args.segment in
     let bound = truncation_gives k i c.args.keep c.present_from-back.result c.requires.segment c.present_from-back.ensures.value in
     can_charge (look c.args.self.now.storage.table) k i _ _ (seg_live _ c.requires.segment) (omega arith) (omega arith) (omega arith)
-
-pub drop_pages-requires-clause-index : goal.drop_pages-requires-clause-index
-drop_pages-requires-clause-index c = within_both c.args.self.now.storage c.charge.new.self c.args.segment c.charge.ensures.spare (seg_live _ c.requires.segment)
 
 written : (c : After-drop_pages) → Truncation (look c.args.self.now.storage.table) (look c.drop_pages.new.self.table) c.args.segment c.present_from-back.result c.args.keep
 written c =

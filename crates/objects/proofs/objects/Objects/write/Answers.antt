@@ -11,16 +11,12 @@ use Rattle.forest.proofs.Write.{made_links}
 use Rattle.forest.proofs.Writing.{Writing, writing, writing_tree, writing_stays, writing_kept}
 use Rattle.tables.specs.Objects.{look}
 use Rattle.tables.specs.Stacks.{stack_item, stack_height, stack_room}
-use Rattle.tables.proofs.Within.{live_within}
 use Rattle.objects.specs.Writes.{told, lacks}
 use Rattle.objects.proofs.Charging.{can_charge}
 use Rattle.objects.proofs.Storing.{kept_over, served_as, within_both}
 use Rattle.objects.proofs.objects.Objects.write.Given.{Over}
 use Rattle.objects.proofs.objects.Objects.write.Goals.{After-missing-count, After-charge, After-write_words}
 use Rattle.objects.proofs.objects.Objects.write.Goals as goal
-
-pub missing-count-requires : goal.missing-count-requires
-missing-count-requires g c = live_within c.args.self.now.storage.table c.args.segment (seg_live _ c.requires.segment)
 
 -- as many pages are missing as become present
 counted : (g : Over) (c : After-missing-count g) → c.missing-count.result ≡ made_present (pages_of (told (g.V.Volume.words c.args.volume.now)) (look c.args.self.now.storage.table c.args.segment).page) c.args.first c.args.words.now

@@ -16,16 +16,10 @@ use Rattle.objects.proofs.Storing.{stocked_as, short_cleared}
 use Rattle.objects.proofs.storage.Storage.release.Goals.{After-drop_pages, After-clear}
 use Rattle.objects.proofs.storage.Storage.release.Goals as goal
 
-pub drop_pages-requires-clause-index : goal.drop_pages-requires-clause-index
-drop_pages-requires-clause-index c = live_within c.args.self.now.table c.args.index c.requires
-
 -- without its pages the object is still in use
 still_live : (c : After-drop_pages) → IsLive (look c.drop_pages.new.self.table c.args.index).body
 still_live c =
     alive _ _ (paged_live (look c.args.self.now.table) (look c.drop_pages.new.self.table) c.args.index (λ n. with_pages n (cut_links 0 n.page)) (λ n. refl) c.drop_pages.ensures.after c.args.index) c.requires
-
-pub clear-requires : goal.clear-requires
-clear-requires c = live_within c.drop_pages.new.self.table c.args.index (still_live (goal.at.clear-requires c).After-drop_pages)
 
 pub push-requires : goal.push-requires
 push-requires c =

@@ -13,7 +13,7 @@ pub(crate) struct Extent<'a> {
     ghost inside: { first + length words.now ≤ 256 },
 }
 
-impl<'a> Extent<'a> {
+impl Extent<'_> {
     /// Whether a page has one of the words.
     pub(crate) fn touches(self, page: usize) -> bool
         requires { page < 16 }

@@ -15,15 +15,15 @@ fn counts_down(rt: HostRuntime) -> Result<(), Fail> {
 
 #[test]
 fn makes_known_numbers(rt: HostRuntime) -> Result<(), Fail> {
-    let known = KnownTable::new(rt.alloc())?;
-    assert!(rt; matches!(known.find(0), Known::Means(0)));
-    assert!(rt; matches!(known.find(15), Known::Free));
+    let known = KnownTable::new();
+    assert_eq!(rt; known.find(0), Known::Means(0));
+    assert_eq!(rt; known.find(15), Known::Free);
     Ok(())
 }
 
 #[test]
 fn makes_links(rt: HostRuntime) -> Result<(), Fail> {
-    let links = Links::new(rt.alloc())?;
+    let links = Links::new();
     assert_eq!(rt; links.find(15), None);
     assert_eq!(rt; links.count(), 0);
     Ok(())

@@ -1,9 +1,5 @@
 pub mod Items
-mod Upto
-pub mod Counts
-mod Countdown
 mod Looking
-mod Pushed
-pub mod Numbering
-pub mod KnownNumbers
+pub mod Counts
 pub mod Within
+mod Made

@@ -1,5 +1,6 @@
 pub mod Cells
 pub mod Bodies
+pub mod Sixteens
 pub mod Links
 pub mod Stacks
 pub mod Objects

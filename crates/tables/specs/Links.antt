@@ -1,16 +1,12 @@
 -- Sixteen numbers as a function. Assumes nothing.
-use Rattle.std.specs.Prelude.{ℕ, None, vec_items, Option, slice_index_or}
-use Rattle.std.specs.Vec.{with_item}
-use Rattle.tables.specs.declared.links.Links.{Links}
+use Rattle.std.specs.Prelude.{ℕ, None, Option}
+use Rattle.tables.specs.declared.sixteen.Sixteen.{Sixteen}
+use Rattle.tables.specs.Sixteens.{value_at}
 
 -- the number at e, if it is there
-abbrev pub link : Links → ℕ → Option ℕ
-link t e = slice_index_or (vec_items t.at) e None
+abbrev pub link : Sixteen (Option ℕ) → ℕ → Option ℕ
+link t e = value_at t None e
 
 -- no number is there
 abbrev pub no_links : ℕ → Option ℕ
 no_links e = None
-
--- the numbers with v at e
-abbrev pub with_link : Links → ℕ → Option ℕ → Links
-with_link t e v = record { at = with_item t.at e v; full = t.full }

@@ -1,22 +1,23 @@
 //! What an object is.
 ghost use Rattle.std.specs.Prelude.{◌≡◌, MatchBool};
+ghost use Rattle.std.specs.Option.{ForSome};
 ghost use Rattle.forest.specs.Nodes.{unused, IsLive, celled, charged_body, regranted_body};
 ghost use Rattle.forest.specs.Forest.{cell_in};
 ghost use Rattle.tables.specs.Cells.{CanCharge, CanRegrant};
-ghost use Rattle.tables.specs.Bodies.{body_of};
+ghost use Rattle.tables.specs.Bodies.{body_of, own_cell, ChangesCell};
 
 use crate::cell::Cell;
 use labels::Label;
 
 /// A directory's label, and its cell if it has one.
-#[derive(Clone, Copy, Drop)]
+#[derive(Clone, Copy, PartialEq, Eq, Debug)]
 pub struct Directory {
     pub label: Label,
     pub cell: Option<Cell>,
 }
 
 /// What an object is: not in use, a segment or a directory.
-#[derive(Clone, Copy, Drop)]
+#[derive(Clone, Copy, PartialEq, Eq, Debug)]
 pub enum Body {
     Unused,
     Segment,
@@ -49,16 +50,7 @@ impl Body {
         requires { CanCharge taken back (cell_in (body_of self)) }
         ensures { body_of result ≡ charged_body taken back (body_of self) }
     {
-        match self {
-            Body::Directory(directory) => match directory.cell {
-                Some(cell) => Body::Directory(Directory {
-                    label: directory.label,
-                    cell: Some(cell.charged(taken, back)),
-                }),
-                None => self,
-            },
-            Body::Unused | Body::Segment => self,
-        }
+        self.with_cell(|cell| cell.charged(taken, back))
     }
 
     /// The body with the grant of its cell, if it has one, and what is left, raised and lowered.
@@ -66,14 +58,19 @@ impl Body {
         requires { CanRegrant up down (cell_in (body_of self)) }
         ensures { body_of result ≡ regranted_body up down (body_of self) }
     {
+        self.with_cell(|cell| cell.regranted(up, down))
+    }
+
+    /// The body with its cell, if it has one, changed.
+    fn with_cell<F: FnOnce(Cell) -> Cell>(self, change: F) -> Body
+        requires { ForSome (own_cell self) (F.pre change) }
+        ensures { ChangesCell (F.post change) self result }
+    {
         match self {
-            Body::Directory(directory) => match directory.cell {
-                Some(cell) => Body::Directory(Directory {
-                    label: directory.label,
-                    cell: Some(cell.regranted(up, down)),
-                }),
-                None => self,
-            },
+            Body::Directory(Directory { label, cell }) => Body::Directory(Directory {
+                label,
+                cell: cell.map(change),
+            }),
             Body::Unused | Body::Segment => self,
         }
     }

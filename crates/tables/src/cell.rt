@@ -4,7 +4,7 @@ ghost use Rattle.std.specs.Prelude.{◌≤◌};
 mod methods;
 
 /// A quota cell: the records granted, and those left. It never has more left than granted.
-#[derive(Clone, Copy, Drop)]
+#[derive(Clone, Copy, PartialEq, Eq, Debug)]
 pub struct Cell {
     granted: u32,
     left: u32,

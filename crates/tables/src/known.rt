@@ -3,7 +3,7 @@ ghost use Rattle.std.specs.Prelude.{◌≡◌};
 ghost use Rattle.tables.specs.Forgotten.{forgotten};
 
 /// What a known number stands for: nothing yet, an object, or one that is no more.
-#[derive(Clone, Copy, Drop)]
+#[derive(Clone, Copy, PartialEq, Eq, Debug)]
 pub enum Known {
     Free,
     Means(usize),
@@ -16,14 +16,8 @@ impl Known {
         ensures { result ≡ forgotten marks.now self }
     {
         match self {
-            Known::Means(object) => {
-                if object < marks.len() && marks[object] {
-                    Known::Gone
-                } else {
-                    self
-                }
-            }
-            Known::Free | Known::Gone => self,
+            Known::Means(object) if marks.get(object).copied().unwrap_or(false) => Known::Gone,
+            Known::Free | Known::Means(_) | Known::Gone => self,
         }
     }
 }

@@ -7,6 +7,7 @@ mod known;
 mod known_table;
 mod links;
 mod object;
+mod sixteen;
 mod stack;
 mod table;
 
@@ -15,5 +16,6 @@ pub use cell::Cell;
 pub use known::Known;
 pub use known_table::KnownTable;
 pub use links::Links;
+pub use sixteen::Sixteen;
 pub use stack::Stack;
 pub use table::Table;

@@ -1,12 +1,11 @@
 //! An object of a table.
-ghost use Rattle.std.specs.Prelude.{◌≡◌, IfOk};
+ghost use Rattle.std.specs.Prelude.{◌≡◌};
 ghost use Rattle.forest.specs.Nodes.{nowhere, with_body};
 ghost use Rattle.tables.specs.Bodies.{body_of};
 ghost use Rattle.tables.specs.Objects.{node_of};
 
 use crate::body::Body;
 use crate::links::Links;
-use std::alloc::{AllocError, Global};
 
 /// An object: what it is, its directory and the place there, how deep it lies, whose cell it uses, the objects at its
 /// places, and the volume pages of its pages.
@@ -23,19 +22,17 @@ pub struct Object {
 
 impl Object {
     /// An object without entries and pages, whose other numbers are all 0.
-    pub(crate) fn new(heap: Global, body: Body) -> Result<Object, AllocError>
-        ensures { IfOk result (λ o. node_of o ≡ with_body nowhere (body_of body)) }
+    pub(crate) fn new(body: Body) -> Object
+        ensures { node_of result ≡ with_body nowhere (body_of body) }
     {
-        let entries = Links::new(heap)?;
-        let pages = Links::new(heap)?;
-        Ok(Object {
+        Object {
             body,
             parent: 0,
             place: 0,
             depth: 0,
             payer: 0,
-            entries,
-            pages,
-        })
+            entries: Links::new(),
+            pages: Links::new(),
+        }
     }
 }

@@ -2,9 +2,10 @@
 ghost use Rattle.std.specs.Prelude.{◌≡◌, ◌<◌};
 ghost use Rattle.forest.specs.Nodes.{with_body, with_entry, with_page, with_place, cleared, charged_body, regranted_body};
 ghost use Rattle.forest.specs.Forest.{cell_at};
+ghost use Rattle.tables.specs.declared.body.Body.{Body};
 ghost use Rattle.tables.specs.Cells.{CanCharge, CanRegrant};
 ghost use Rattle.tables.specs.Bodies.{body_of};
-ghost use Rattle.tables.specs.Objects.{look, table_size, change_at};
+ghost use Rattle.tables.specs.Objects.{look, table_size, Changed, ChangesBody};
 
 use crate::body::Body;
 use crate::table::Table;
@@ -13,8 +14,7 @@ impl Table {
     /// Says what the object is.
     pub fn set_body(&mut self, index: usize, body: Body)
         requires { index < table_size self.old }
-        ensures after { look self.new ≡ change_at (look self.old) index (λ n. with_body n (body_of body)) }
-        ensures size { table_size self.new ≡ table_size self.old }
+        ensures { Changed self.old self.new index (λ n. with_body n (body_of body)) }
     {
         self.objects[index].body = body;
     }
@@ -23,22 +23,18 @@ impl Table {
     pub fn charge(&mut self, index: usize, taken: u32, back: u32)
         requires index { index < table_size self.old }
         requires cell { CanCharge taken back (cell_at (look self.old) index) }
-        ensures after { look self.new ≡ change_at (look self.old) index (λ n. with_body n (charged_body taken back n.body)) }
-        ensures size { table_size self.new ≡ table_size self.old }
+        ensures { Changed self.old self.new index (λ n. with_body n (charged_body taken back n.body)) }
     {
-        let body = self.body(index).charged(taken, back);
-        self.set_body(index, body);
+        self.change_body(index, |body| body.charged(taken, back));
     }
 
     /// Raises and lowers the grant of the object's cell, if it has one, and what is left.
     pub fn regrant(&mut self, index: usize, up: u32, down: u32)
         requires index { index < table_size self.old }
         requires cell { CanRegrant up down (cell_at (look self.old) index) }
-        ensures after { look self.new ≡ change_at (look self.old) index (λ n. with_body n (regranted_body up down n.body)) }
-        ensures size { table_size self.new ≡ table_size self.old }
+        ensures { Changed self.old self.new index (λ n. with_body n (regranted_body up down n.body)) }
     {
-        let body = self.body(index).regranted(up, down);
-        self.set_body(index, body);
+        self.change_body(index, |body| body.regranted(up, down));
     }
 
     /// Says where the object lies and whose cell it uses.
@@ -51,8 +47,7 @@ impl Table {
         payer: usize,
     )
         requires { index < table_size self.old }
-        ensures after { look self.new ≡ change_at (look self.old) index (λ n. with_place n parent place depth payer) }
-        ensures size { table_size self.new ≡ table_size self.old }
+        ensures { Changed self.old self.new index (λ n. with_place n parent place depth payer) }
     {
         let object = &mut self.objects[index];
         object.parent = parent;
@@ -65,8 +60,7 @@ impl Table {
     pub fn set_entry(&mut self, index: usize, place: usize, to: Option<usize>)
         requires index { index < table_size self.old }
         requires place { place < 16 }
-        ensures after { look self.new ≡ change_at (look self.old) index (λ n. with_entry n place to) }
-        ensures size { table_size self.new ≡ table_size self.old }
+        ensures { Changed self.old self.new index (λ n. with_entry n place to) }
     {
         *self.objects[index].entries.slot(place) = to;
     }
@@ -75,8 +69,7 @@ impl Table {
     pub fn set_page(&mut self, index: usize, page: usize, to: Option<usize>)
         requires index { index < table_size self.old }
         requires page { page < 16 }
-        ensures after { look self.new ≡ change_at (look self.old) index (λ n. with_page n page to) }
-        ensures size { table_size self.new ≡ table_size self.old }
+        ensures { Changed self.old self.new index (λ n. with_page n page to) }
     {
         *self.objects[index].pages.slot(page) = to;
     }
@@ -84,12 +77,21 @@ impl Table {
     /// Takes the object out of use; where it stood stays written there.
     pub fn clear(&mut self, index: usize)
         requires { index < table_size self.old }
-        ensures after { look self.new ≡ change_at (look self.old) index cleared }
-        ensures size { table_size self.new ≡ table_size self.old }
+        ensures { Changed self.old self.new index cleared }
     {
         let object = &mut self.objects[index];
         object.body = Body::Unused;
         object.entries.clear();
         object.pages.clear();
+    }
+
+    /// Changes what the object is.
+    fn change_body<F: FnOnce(Body) -> Body>(&mut self, index: usize, change: F)
+        requires index { index < table_size self.old }
+        requires call { (body : Body) → body_of body ≡ (look self.old index).body → F.pre change body }
+        ensures { ChangesBody (F.post change) self.old self.new index }
+    {
+        let body = change(self.body(index));
+        self.set_body(index, body);
     }
 }

@@ -1,26 +1,18 @@
 -- What is left to show of `new`.
-use Rattle.std.proofs.Common.{vec_items, refl, ◌∙◌, arith}
+use Rattle.std.proofs.Common.{◌≡◌, List, [], ◌++◌, take, ap, ◌∙◌, arith, rules}
+use mathlib.Core.Path.{fun_ext}
+use Rattle.std.proofs.lemmas.List.{take_all}
+use Rattle.forest.specs.Nodes.{Nodes, with_body}
+use Rattle.tables.specs.declared.object.Object.{Object}
 use Rattle.tables.specs.Bodies.{body_of}
-use Rattle.tables.proofs.Pushed.{view_root, view_more}
+use Rattle.tables.specs.Objects.{view, change_at}
+use Rattle.tables.proofs.Made.{none_shown}
 use Rattle.tables.proofs.table.Table.new.Goals as goal
 
-pub loop-init : goal.loop-init
-loop-init c =
-    let none = c.in_ok-objects.ensures.len in
-    let len = c.in_ok-push.ensures.len in
-    (omega arith, refl)
-
-pub loop-preserved : goal.loop-preserved
-loop-preserved c =
-    let pushed = c.in_ok-push-2.ensures in
-    let len = pushed.len in
-    let was = c.loop.invariant.0 in
-    (omega arith, view_more (vec_items c.loop.objects) (vec_items c.push-in-loop.new.self) c.in_ok-new-2.field-0 pushed.items c.in_ok-new-2.ensures ∙ c.loop.invariant.1)
-
-pub returns : goal.returns
-returns c =
-    let len = c.loop.invariant.0 in
-    record {
-      size = omega arith;
-      nodes = c.loop.invariant.1 ∙ view_root (body_of c.args.root) (vec_items c.in_ok-objects.objects) (vec_items c.push.new.self) c.in_ok-new.field-0 c.in_ok-objects.ensures.items c.in_ok-push.ensures.items c.in_ok-new.ensures;
-    }
+pub returns-clause-nodes : goal.returns-clause-nodes
+returns-clause-nodes c =
+    let made = c.in_ok-resize_with.ensures.items in
+    let none = ap (take c.args.size) c.new-objects.ensures.items ∙ take_all c.args.size [] (omega arith) in
+    let before : c.resize_with.new.self.items ≡ made.0 = made.2 ∙ ap (λ (l : List Object). l ++ made.0) none in
+    c.set_body.ensures.after
+    ∙ ap (λ (a : Nodes). change_at a 0 (λ n. with_body n (body_of c.args.root))) (ap view before ∙ fun_ext (none_shown _ (λ f g o s. search rules) made.0 _ _ made.3))

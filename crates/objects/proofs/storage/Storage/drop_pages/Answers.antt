@@ -1,0 +1,22 @@
+-- What is left to show of `drop_pages`.
+use Rattle.std.proofs.Common.{ℕ, None, Option, ap, ◌∙◌}
+use Rattle.rules.specs.Indexed.{assign}
+use Rattle.forest.specs.Nodes.{with_pages}
+use Rattle.forest.proofs.Paged.{page_again}
+use Rattle.forest.proofs.Truncate.{cut_upto, cut_next}
+use Rattle.tables.specs.Objects.{look}
+use Rattle.objects.proofs.storage.Storage.drop_pages.Goals as goal
+
+pub loop-page-preserved : goal.loop-page-preserved
+loop-page-preserved c =
+    let a = look c.args.self.now.table in
+    let i = c.args.index in
+    let k = c.loop-page.page in
+    let inv = c.loop-page.invariant in
+    record {
+      after =
+          page_again a (look c.loop-page.self.table) (look c.drop_page.new.self.table) i k (cut_upto c.args.keep k (a i).page) None inv.after c.drop_page.ensures.after
+          ∙ ap (λ (ps : ℕ → Option ℕ). assign a i (with_pages (a i) ps)) (cut_next c.args.keep k (a i).page c.loop-page.auto.page);
+      unused = c.drop_page.ensures.unused ∙ inv.unused;
+      room = c.drop_page.ensures.room ∙ inv.room;
+    }

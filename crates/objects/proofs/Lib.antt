@@ -1,5 +1,7 @@
+mod Arrays
 mod Charging
-mod Releasing
-mod Lacking
+mod Counting
 mod Fresh
+mod Lacking
 mod Popped
+mod Storing

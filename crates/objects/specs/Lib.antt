@@ -1,2 +1,5 @@
+pub mod Storing
+pub mod PageChanges
 pub mod Views
 pub mod Writes
+pub mod VolumePages

@@ -7,8 +7,8 @@ use Rattle.objects.specs.declared.objects.Objects.{Objects}
 
 -- the node at each index
 abbrev pub nodes : Objects → Nodes
-nodes o = look o.table
+nodes o = look o.storage.table
 
 -- how many records the store has, as many as pages of the volume that it uses
 abbrev pub records : Objects → ℕ
-records o = stack_room o.spare
+records o = stack_room o.storage.spare

@@ -27,11 +27,7 @@ fn payer_of(body: Body, index: usize, above: usize) -> usize
 fn new_cell(grant: u32) -> Option<Cell>
     ensures { option_map cell_of result ≡ new_cell grant }
 {
-    if grant == 0 {
-        None
-    } else {
-        Some(Cell::new(grant))
-    }
+    (grant != 0).then(|| Cell::new(grant))
 }
 
 impl Objects {
@@ -48,13 +44,17 @@ impl Objects {
         ensures stays { Stays (nodes self.old) (nodes self.new) }
         ensures records { records self.new ≡ records self.old }
     {
-        let index = self.unused.pop();
-        let above = self.table.payer(directory);
-        let depth = self.table.depth(directory) + 1;
-        self.table.charge(above, taken, 0);
-        self.table.set_entry(directory, place, Some(index));
-        self.table.set_body(index, body);
-        self.table.set_place(index, directory, place, depth, payer_of(body, index, above));
+        let storage = &mut self.storage;
+        let above = storage.table.payer(directory);
+        let depth = storage.table.depth(directory) + 1;
+        storage.charge(directory, taken, 0);
+        let index = storage.unused.pop();
+        let payer = payer_of(body, index, above);
+        storage.table.set_entry(directory, place, Some(index));
+        storage.table.set_body(index, body);
+        storage
+            .table
+            .set_place(index, directory, place, depth, payer);
     }
 }
 

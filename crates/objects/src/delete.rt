@@ -11,7 +11,8 @@ ghost use Rattle.tables.specs.Objects.{table_size};
 ghost use Rattle.objects.specs.Views.{nodes, records};
 
 use crate::objects::Objects;
-use crate::release::{Marks, release_marked};
+use crate::storage::Marks;
+use std::array;
 use tables::Body;
 
 impl Objects {
@@ -25,30 +26,34 @@ impl Objects {
             if at == 0 {
                 return false;
             }
-            at = self.table.parent(at);
+            at = self.storage.table.parent(at);
         }
         true
+    }
+
+    /// Whether an index is that of `top`, or of an object below it.
+    fn is_part(&self, index: usize, top: usize) -> bool
+        ensures { Tells (nodes self.now) top index result }
+    {
+        let table = &self.storage.table;
+        index < table.len() && table.body(index).is_live() && self.lies_under(index, top)
     }
 
     /// Which objects are `top` or lie below it.
     pub fn subtree(&self, top: usize) -> Marks
         ensures { (k : ℕ) → Tells (nodes self.now) top k (slice_index_or result k false) }
     {
-        let mut marks = [false; 257];
-        for index in 0..self.table.len() {
-            marks[index] = self.table.body(index).is_live() && self.lies_under(index, top);
-        }
-        marks
+        array::from_fn(|index| self.is_part(index, top))
     }
 
     /// The records that an object stands for: itself, its present pages, and what its cell has left.
     fn weight(&self, index: usize) -> u32
-        requires { index < table_size self.now.table }
+        requires { index < table_size self.now.storage.table }
         ensures { result ≡ weight (nodes self.now index) }
     {
-        match self.table.body(index) {
+        match self.storage.table.body(index) {
             Body::Unused => 0,
-            Body::Segment => 1 + self.table.present(index),
+            Body::Segment => 1 + self.storage.table.present(index),
             Body::Directory(directory) => match directory.cell {
                 None => 1,
                 Some(cell) => 1 + cell.left(),
@@ -60,13 +65,8 @@ impl Objects {
     fn weights(&self, marks: &Marks) -> u32
         ensures { result ≡ sum 257 (λ k. (if get_or marks.now k false then weight (nodes self.now k) else 0)) }
     {
-        let mut total = 0;
-        for index in 0..self.table.len() {
-            if marks[index] {
-                total += self.weight(index);
-            }
-        }
-        total
+        let marked = (0..self.storage.table.len()).filter(|index| marks[*index]);
+        marked.map(|index| self.weight(index)).sum()
     }
 }
 
@@ -82,10 +82,10 @@ impl Objects {
         ensures records { records self.new ≡ records self.old }
     {
         let back = self.weights(marks);
-        let payer = self.table.payer(directory);
-        self.table.charge(payer, 0, back);
-        self.table.set_entry(directory, place, None);
-        release_marked(&mut self.table, &mut self.unused, &mut self.spare, marks);
+        let storage = &mut self.storage;
+        storage.charge(directory, 0, back);
+        storage.table.set_entry(directory, place, None);
+        storage.release_marked(marks);
         back
     }
 }

@@ -3,16 +3,16 @@
 
 mod create;
 mod delete;
+mod extent;
 mod new;
 mod objects;
-mod pages;
 mod quota;
 mod read;
-mod release;
-mod slots;
+mod storage;
 mod truncate;
+mod volume_page;
 mod words;
 mod write;
 
 pub use objects::Objects;
-pub use release::Marks;
+pub use storage::Marks;

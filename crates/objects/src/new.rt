@@ -8,6 +8,7 @@ ghost use Rattle.tables.specs.Objects.{root_alone};
 ghost use Rattle.objects.specs.Views.{nodes, records};
 
 use crate::objects::Objects;
+use crate::storage::Storage;
 use labels::Label;
 use std::alloc::{AllocError, Global};
 use tables::{Body, Cell, Directory, Stack, Table};
@@ -33,10 +34,11 @@ impl Objects {
                 cell: Some(cell),
             }),
         )?;
-        Ok(Objects {
+        let storage = Storage {
             table,
             unused,
             spare,
-        })
+        };
+        Ok(Objects { storage })
     }
 }

@@ -1,18 +1,11 @@
 //! The objects of a store.
-ghost use Rattle.std.specs.Prelude.{◌≡◌, suc};
-ghost use Rattle.forest.specs.Steps.{Kept};
-ghost use Rattle.tables.specs.Objects.{look, table_size};
-ghost use Rattle.tables.specs.Stacks.{stack_item, stack_height, stack_room};
+ghost use Rattle.objects.specs.Storing.{IsKept};
 
-use tables::{Stack, Table};
+use crate::storage::Storage;
 
-/// The objects of a store in a table, and stacks of the objects and of the pages of the volume that are not in use.
+/// The objects of a store: what is kept of them is a tree whose cells account for every record.
 #[derive(Drop)]
 pub struct Objects {
-    pub(crate) table: Table,
-    pub(crate) unused: Stack,
-    pub(crate) spare: Stack,
-    ghost sized: { table_size table ≡ suc (stack_room spare) },
-    ghost roomy: { stack_room unused ≡ suc (stack_room spare) },
-    ghost kept: { ∥ Kept (stack_room spare) (look table) (stack_item unused) (stack_height unused) (stack_item spare) (stack_height spare) ∥₁ },
+    pub(crate) storage: Storage,
+    ghost kept: { IsKept storage.table storage.unused storage.spare },
 }

@@ -21,8 +21,8 @@ impl Objects {
         ensures stays { Stays (nodes self.old) (nodes self.new) }
         ensures records { records self.new ≡ records self.old }
     {
-        let payer = self.table.payer(directory);
-        self.table.charge(payer, up, down);
-        self.table.regrant(child, up, down);
+        let storage = &mut self.storage;
+        storage.charge(directory, up, down);
+        storage.table.regrant(child, up, down);
     }
 }

@@ -18,7 +18,7 @@ impl Objects {
         requires volume { records self.now ≤ pages_in (V.Volume.words volume.now) }
         ensures { result ≡ segment_word (pages_of (told (V.Volume.words volume.now)) (nodes self.now segment).page) index }
     {
-        match self.table.page(segment, index / PAGE_WORDS) {
+        match self.storage.table.page(segment, index / PAGE_WORDS) {
             Some(page) => volume.read(page, index % PAGE_WORDS).unwrap_or(0),
             None => 0,
         }

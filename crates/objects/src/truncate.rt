@@ -8,7 +8,6 @@ ghost use Rattle.forest.specs.Steps.{Enacted, Stays};
 ghost use Rattle.objects.specs.Views.{nodes, records};
 
 use crate::objects::Objects;
-use crate::pages::{drop_pages, present_from};
 
 impl Objects {
     /// Makes the pages of a segment numbered `keep` and up absent, and tells how many were present. The cell that the
@@ -21,10 +20,9 @@ impl Objects {
         ensures stays { Stays (nodes self.old) (nodes self.new) }
         ensures records { records self.new ≡ records self.old }
     {
-        let back = present_from(&self.table, segment, keep);
-        let payer = self.table.payer(segment);
-        self.table.charge(payer, 0, back);
-        drop_pages(&mut self.table, &mut self.spare, segment, keep);
+        let back = self.storage.present_from(segment, keep);
+        self.storage.charge(segment, 0, back);
+        self.storage.drop_pages(segment, keep);
         back
     }
 }

@@ -1,61 +1,35 @@
 //! The words of one page of a volume.
-ghost use Rattle.std.specs.Prelude.{◌≡◌, ℕ, ◌+◌, ◌*◌, ◌<◌, ◌≤◌, length, if◌then◌else◌};
+ghost use Rattle.std.specs.Prelude.{◌≡◌, ℕ, ◌+◌, ◌*◌, ◌<◌, if◌then◌else◌};
 ghost use Rattle.volumes.specs.Pages.{pages_in};
 ghost use Rattle.forest.specs.Words.{word_over, page_written};
+ghost use Rattle.objects.specs.VolumePages.{number_of, is_fresh};
 ghost use Rattle.objects.specs.Writes.{told};
 
+use crate::extent::Extent;
+use crate::volume_page::VolumePage;
 use volumes::{PAGE_WORDS, Volume};
 
-/// A word of a segment after the words were written from `first` on: one of them, or else what the volume page has
-/// there, zero in a fresh one.
-fn new_word<V: Volume>(
-    volume: &V,
-    page: usize,
-    word: usize,
-    fresh: bool,
-    at: usize,
-    first: usize,
-    words: &[u32],
-) -> u32
-    requires inside { (page < pages_in (V.Volume.words volume.now)) × (word < 16) }
-    requires small { first + length words.now ≤ 256 }
-    ensures { result ≡ word_over first words.now at (if fresh then 0 else told (V.Volume.words volume.now) (page * 16 + word)) }
-{
-    if first <= at && at < first + words.len() {
-        words[at - first]
-    } else if fresh {
-        0
-    } else {
-        volume.read(page, word).unwrap_or(0)
+impl VolumePage {
+    /// The word at `at` of a segment, which is word `word` of the page, after the words of the extent were written.
+    fn new_word<V: Volume>(self, volume: &V, word: usize, at: usize, extent: Extent<'_>) -> u32
+        requires number { number_of self < pages_in (V.Volume.words volume.now) }
+        requires word { word < 16 }
+        ensures { result ≡ word_over extent.entry.first extent.entry.words.now at (if is_fresh self then 0 else told (V.Volume.words volume.now) (number_of self * 16 + word)) }
+    {
+        extent.word(at).unwrap_or_else(|| self.word(volume, word))
     }
-}
 
-/// Puts the words that fall into page `number` of a segment into the volume page that serves it. A fresh page has zeros
-/// elsewhere.
-pub(crate) fn write_page<V: Volume>(
-    volume: &mut V,
-    page: usize,
-    fresh: bool,
-    number: usize,
-    first: usize,
-    words: &[u32],
-)
-    requires inside { page < pages_in (V.Volume.words volume.old) }
-    requires number { number < 16 }
-    requires small { first + length words.now ≤ 256 }
-    ensures pages { pages_in (V.Volume.words volume.new) ≡ pages_in (V.Volume.words volume.old) }
-    ensures words { (x : ℕ) → told (V.Volume.words volume.new) x ≡ page_written (told (V.Volume.words volume.old)) page fresh number first words.now 16 x }
-{
-    for word in 0..PAGE_WORDS {
-        let value = new_word(
-            volume,
-            page,
-            word,
-            fresh,
-            PAGE_WORDS * number + word,
-            first,
-            words,
-        );
-        let _ = volume.write(page, word, value);
+    /// Puts the words that fall into page `page` of a segment, which it serves, into it. A fresh page has zeros elsewhere.
+    pub(crate) fn write<V: Volume>(self, volume: &mut V, page: usize, extent: Extent<'_>)
+        requires inside { number_of self < pages_in (V.Volume.words volume.old) }
+        requires page { page < 16 }
+        ensures pages { pages_in (V.Volume.words volume.new) ≡ pages_in (V.Volume.words volume.old) }
+        ensures words { (x : ℕ) → told (V.Volume.words volume.new) x ≡ page_written (told (V.Volume.words volume.old)) (number_of self) (is_fresh self) page extent.entry.first extent.entry.words.now 16 x }
+    {
+        let number = self.number();
+        for word in 0..PAGE_WORDS {
+            let value = self.new_word(volume, word, PAGE_WORDS * page + word, extent);
+            let _ = volume.write(number, word, value);
+        }
     }
 }

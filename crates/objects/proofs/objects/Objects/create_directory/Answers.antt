@@ -24,7 +24,7 @@ insert-requires c =
 
 pub returns : goal.returns
 returns c =
-    let a = look c.args.self.now.table in
+    let a = look c.args.self.now.storage.table in
     record {
       tree = λ w.
           c.insert.ensures.tree w

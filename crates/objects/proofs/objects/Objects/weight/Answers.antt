@@ -13,11 +13,11 @@ use Rattle.objects.proofs.objects.Objects.weight.Goals as goal
 pub overflow_add-result : goal.overflow_add-result
 overflow_add-result c =
     let low = c.requires in
-    let few = c.args.self.now.table.few in
+    let few = c.args.self.now.storage.table.few in
     let small = weight_small c.args.self.now.kept c.args.index (omega arith) in
     let is =
     ap
-    (λ (b : Body). weight_of b (look c.args.self.now.table c.args.index).page)
+    (λ (b : Body). weight_of b (look c.args.self.now.storage.table c.args.index).page)
     c.in-Segment.ensures
     in
     let present = c.present.ensures in
@@ -26,11 +26,11 @@ overflow_add-result c =
 pub overflow_add-result-in-Some : goal.overflow_add-result-in-Some
 overflow_add-result-in-Some c =
     let low = c.requires in
-    let few = c.args.self.now.table.few in
+    let few = c.args.self.now.storage.table.few in
     let small = weight_small c.args.self.now.kept c.args.index (omega arith) in
     let is =
     ap
-    (λ (b : Body). weight_of b (look c.args.self.now.table c.args.index).page)
+    (λ (b : Body). weight_of b (look c.args.self.now.storage.table c.args.index).page)
     c.in-Directory.ensures
     in
     let held = ap (λ (x : Option Cell). left_in (option_map cell_of x)) c.in-Some.is in

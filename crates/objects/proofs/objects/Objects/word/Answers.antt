@@ -14,16 +14,16 @@ use Rattle.objects.specs.Writes.{told}
 use Rattle.objects.proofs.objects.Objects.word.Goals as goal
 
 pub page-requires : goal.page-requires
-page-requires g c = record { index = live_within c.args.self.now.table c.args.segment (seg_live _ c.requires.segment); page = omega arith }
+page-requires g c = record { index = live_within c.args.self.now.storage.table c.args.segment (seg_live _ c.requires.segment); page = omega arith }
 
 pub returns-in-Some : goal.returns-in-Some
 returns-in-Some g c =
     let ws = g.V.Volume.words c.args.volume.now in
-    let links : ℕ → Option ℕ = (look c.args.self.now.table c.args.segment).page in
+    let links : ℕ → Option ℕ = (look c.args.self.now.storage.table c.args.segment).page in
     let at = c.args.index in
     let page = c.in-Some.page in
     let is : links (at / 16) ≡ Some page = sym c.page.ensures ∙ c.in-Some.is in
-    let low : page < stack_room c.args.self.now.spare = ∥∥₁_elim c.args.self.now.kept le_prop (λ z. z.served.used c.args.segment (at / 16) page is) in
+    let low : page < stack_room c.args.self.now.storage.spare = ∥∥₁_elim c.args.self.now.kept le_prop (λ z. z.served.used c.args.segment (at / 16) page is) in
     let fits = c.requires.volume in
     let there : inside ws page (at % 16) ≡ true = and_from _ _ (lt-ltb page (pages_in ws) (omega arith)) (lt-ltb (at % 16) 16 (omega arith)) in
     c.unwrap_or.ensures ∙ ap (λ (o : Option ℕ). unwrap_or o 0) (c.read.ensures ∙ sym (inside_read ws page (at % 16) there)) ∙ sym (word_present (told ws) links at page is)

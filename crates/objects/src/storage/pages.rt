@@ -1,0 +1,71 @@
+//! Pages of segments, and the pages of the volume that serve them.
+ghost use Rattle.std.specs.Prelude.{◌≡◌, ℕ, ◌+◌, ◌-◌, ◌<◌, ◌≤◌, if◌then◌else◌, Some, None, nat_lt};
+ghost use Rattle.rules.specs.Indexed.{sum};
+ghost use Rattle.forest.specs.Nodes.{with_page, with_pages};
+ghost use Rattle.forest.specs.Forest.{has, cut_links};
+ghost use Rattle.tables.specs.Objects.{look, table_size};
+ghost use Rattle.tables.specs.Stacks.{stack_height, stack_room};
+ghost use Rattle.objects.specs.PageChanges.{ChangesPages};
+ghost use Rattle.objects.specs.VolumePages.{number_of, is_fresh};
+
+use crate::storage::Storage;
+use crate::volume_page::VolumePage;
+
+/// A segment has so many pages.
+pub(crate) const PAGES: usize = 16;
+
+impl Storage {
+    /// How many pages of an object, numbered `keep` and up, are present.
+    pub(crate) fn present_from(&self, index: usize, keep: usize) -> u32
+        requires index { index < table_size self.now.table }
+        requires keep { keep ≤ 16 }
+        ensures value { result ≡ sum 16 (λ k. (if nat_lt k keep then 0 else has ((look self.now.table index).page k))) }
+        ensures few { result ≤ 16 }
+    {
+        let present = (keep..PAGES).filter(|page| self.table.page(index, *page).is_some());
+        present.count() as u32
+    }
+
+    /// A page becomes absent, if it is not already, and the volume page that served it serves nothing any more.
+    fn drop_page(&mut self, index: usize, page: usize)
+        requires index { index < table_size self.old.table }
+        requires page { page < 16 }
+        ensures { ChangesPages self.old self.new index (λ n. with_page n page None) }
+    {
+        if let Some(number) = self.table.page(index, page) {
+            self.table.set_page(index, page, None);
+            self.spare.push(number);
+        }
+    }
+
+    /// The pages numbered `keep` and up become absent.
+    pub(crate) fn drop_pages(&mut self, index: usize, keep: usize)
+        requires index { index < table_size self.old.table }
+        requires keep { keep ≤ 16 }
+        ensures { ChangesPages self.old self.new index (λ n. with_pages n (cut_links keep n.page)) }
+    {
+        for page in keep..PAGES {
+            self.drop_page(index, page);
+        }
+    }
+
+    /// The volume page of a page of a segment. An absent page gets the one on top of the stack.
+    pub(crate) fn ensure_page(&mut self, index: usize, page: usize) -> VolumePage
+        requires index { index < table_size self.old.table }
+        requires page { page < 16 }
+        requires enough { 1 - has ((look self.old.table index).page page) ≤ stack_height self.old.spare }
+        ensures low { number_of result < stack_room self.old.spare }
+        ensures was { (look self.old.table index).page page ≡ (if is_fresh result then None else Some (number_of result)) }
+        ensures changed { ChangesPages self.old self.new index (λ n. with_page n page (Some (number_of result))) }
+        ensures height { stack_height self.new.spare + (1 - has ((look self.old.table index).page page)) ≡ stack_height self.old.spare }
+    {
+        match self.table.page(index, page) {
+            Some(number) => VolumePage::Held(number),
+            None => {
+                let number = self.spare.pop();
+                self.table.set_page(index, page, Some(number));
+                VolumePage::Fresh(number)
+            }
+        }
+    }
+}

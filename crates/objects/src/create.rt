@@ -9,7 +9,6 @@ ghost use Rattle.forest.specs.Nodes.{IsDir, IsLive, celled};
 ghost use Rattle.forest.specs.Forest.{bare_tree, path_to, cell_at};
 ghost use Rattle.forest.specs.Steps.{Enacted, Stays};
 ghost use Rattle.tables.specs.Bodies.{body_of};
-ghost use Rattle.tables.specs.Nibbles.{nibble_value};
 ghost use Rattle.tables.specs.Cells.{cell_of};
 ghost use Rattle.objects.specs.Views.{nodes, records};
 
@@ -35,12 +34,12 @@ impl Objects {
     /// Puts a new object at an empty place of a directory. The cell that the directory uses pays for it.
     fn insert(&mut self, directory: usize, place: Nibble, body: Body, taken: u32)
         requires directory { IsDir (nodes self.old directory).body }
-        requires vacant { (nodes self.old directory).entry (nibble_value place) ≡ None }
+        requires vacant { (nodes self.old directory).entry place.value ≡ None }
         requires live { IsLive (body_of body) }
         requires fit { Fit (bare_tree (body_of body)) }
         requires cost { cost (bare_tree (body_of body)) ≡ taken }
         requires paid { taken ≤ (cell_at (nodes self.old) (nodes self.old directory).payer).left }
-        ensures tree { Enacted (nodes self.old) (nodes self.new) (path_to (nodes self.old) directory) (change (change_place (nibble_value place) (create (bare_tree (body_of body)))) taken 0) }
+        ensures tree { Enacted (nodes self.old) (nodes self.new) (path_to (nodes self.old) directory) (change (change_place place.value (create (bare_tree (body_of body)))) taken 0) }
         ensures stays { Stays (nodes self.old) (nodes self.new) }
         ensures records { records self.new ≡ records self.old }
     {
@@ -54,7 +53,7 @@ impl Objects {
         storage.table.set_body(index, body);
         storage
             .table
-            .set_place(index, directory, place.get(), depth, payer);
+            .set_place(index, directory, place.value, depth, payer);
     }
 }
 
@@ -62,9 +61,9 @@ impl Objects {
     /// Puts a segment without pages at an empty place of a directory.
     pub fn create_segment(&mut self, directory: usize, place: Nibble)
         requires directory { IsDir (nodes self.old directory).body }
-        requires vacant { (nodes self.old directory).entry (nibble_value place) ≡ None }
+        requires vacant { (nodes self.old directory).entry place.value ≡ None }
         requires paid { 1 ≤ (cell_at (nodes self.old) (nodes self.old directory).payer).left }
-        ensures tree { Enacted (nodes self.old) (nodes self.new) (path_to (nodes self.old) directory) (change (change_place (nibble_value place) (create new_segment)) 1 0) }
+        ensures tree { Enacted (nodes self.old) (nodes self.new) (path_to (nodes self.old) directory) (change (change_place place.value (create new_segment)) 1 0) }
         ensures stays { Stays (nodes self.old) (nodes self.new) }
         ensures records { records self.new ≡ records self.old }
     {
@@ -75,9 +74,9 @@ impl Objects {
     pub fn create_directory(&mut self, directory: usize, place: Nibble, label: Label, grant: u32)
         requires directory { IsDir (nodes self.old directory).body }
         requires small { grant ≤ 256 }
-        requires vacant { (nodes self.old directory).entry (nibble_value place) ≡ None }
+        requires vacant { (nodes self.old directory).entry place.value ≡ None }
         requires paid { 1 + grant ≤ (cell_at (nodes self.old) (nodes self.old directory).payer).left }
-        ensures tree { Enacted (nodes self.old) (nodes self.new) (path_to (nodes self.old) directory) (change (change_place (nibble_value place) (create (new_directory label grant))) (1 + grant) 0) }
+        ensures tree { Enacted (nodes self.old) (nodes self.new) (path_to (nodes self.old) directory) (change (change_place place.value (create (new_directory label grant))) (1 + grant) 0) }
         ensures stays { Stays (nodes self.old) (nodes self.new) }
         ensures records { records self.new ≡ records self.old }
     {

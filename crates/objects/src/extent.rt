@@ -1,7 +1,6 @@
 //! Words for a segment.
 ghost use Rattle.std.specs.Prelude.{◌≡◌, ℕ, ◌+◌, ◌<◌, ◌≤◌, length, unwrap_or};
 ghost use Rattle.rules.specs.Segments.{touched};
-ghost use Rattle.tables.specs.Nibbles.{nibble_value};
 ghost use Rattle.forest.specs.Words.{word_over};
 
 use tables::Nibble;
@@ -18,9 +17,9 @@ pub(crate) struct Extent<'a> {
 impl<'a> Extent<'a> {
     /// Whether a page has one of the words.
     pub(crate) fn touches(self, page: Nibble) -> bool
-        ensures { result ≡ touched self.entry.first (length self.entry.words.now) (nibble_value page) }
+        ensures { result ≡ touched self.entry.first (length self.entry.words.now) page.value }
     {
-        let page = page.get();
+        let page = page.value;
         self.first / PAGE_WORDS <= page && PAGE_WORDS * page < self.first + self.words.len()
     }
 

@@ -2,7 +2,6 @@
 ghost use Rattle.std.specs.Prelude.{◌≡◌, ℕ, ◌+◌, ◌*◌, ◌<◌, if◌then◌else◌};
 ghost use Rattle.volumes.specs.Pages.{pages_in};
 ghost use Rattle.forest.specs.Words.{word_over, page_written};
-ghost use Rattle.tables.specs.Nibbles.{nibble_value};
 ghost use Rattle.objects.specs.VolumePages.{number_of, is_fresh};
 ghost use Rattle.objects.specs.Writes.{told};
 
@@ -25,11 +24,11 @@ impl VolumePage {
     pub(crate) fn write<V: Volume>(self, volume: &mut V, page: Nibble, extent: Extent<'_>)
         requires { number_of self < pages_in (V.Volume.words volume.old) }
         ensures pages { pages_in (V.Volume.words volume.new) ≡ pages_in (V.Volume.words volume.old) }
-        ensures words { (x : ℕ) → told (V.Volume.words volume.new) x ≡ page_written (told (V.Volume.words volume.old)) (number_of self) (is_fresh self) (nibble_value page) extent.entry.first extent.entry.words.now 16 x }
+        ensures words { (x : ℕ) → told (V.Volume.words volume.new) x ≡ page_written (told (V.Volume.words volume.old)) (number_of self) (is_fresh self) page.value extent.entry.first extent.entry.words.now 16 x }
     {
         let number = self.number();
         for word in 0..PAGE_WORDS {
-            let value = self.new_word(volume, word, PAGE_WORDS * page.get() + word, extent);
+            let value = self.new_word(volume, word, PAGE_WORDS * page.value + word, extent);
             let _ = volume.write(number, word, value);
         }
     }

@@ -3,10 +3,6 @@ use Rattle.std.specs.Prelude.{◌≡◌, ℕ, ◌≤◌, MatchResult, Result}
 use Rattle.tables.specs.declared.nibble.Nibble.{Nibble}
 use Rattle.tables.specs.declared.nibble.TooLarge.{TooLarge}
 
--- the number
-abbrev pub nibble_value : Nibble → ℕ
-nibble_value n = n.value
-
--- the number v where it is below 16, and an error where it is not
+-- v where it is below 16, and an error where it is not
 abbrev pub IsNibbleOf : ℕ → Result Nibble TooLarge → Type 0
-IsNibbleOf v r = MatchResult r (λ n. nibble_value n ≡ v) (λ _. 16 ≤ v)
+IsNibbleOf v r = MatchResult r (λ n. n.value ≡ v) (λ _. 16 ≤ v)

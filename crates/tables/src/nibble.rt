@@ -6,7 +6,7 @@ mod methods;
 /// A number below 16: of a place in a directory, of a page of a segment, or a known number of a process.
 #[derive(Clone, Copy, PartialEq, Eq, Debug)]
 pub struct Nibble {
-    value: usize,
+    pub value: usize,
     ghost small: { value < 16 },
 }
 

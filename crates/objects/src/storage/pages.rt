@@ -3,7 +3,6 @@ ghost use Rattle.std.specs.Prelude.{◌≡◌, ℕ, ◌+◌, ◌-◌, ◌<◌, �
 ghost use Rattle.rules.specs.Indexed.{sum};
 ghost use Rattle.forest.specs.Nodes.{with_page, with_pages};
 ghost use Rattle.forest.specs.Forest.{has, cut_links};
-ghost use Rattle.tables.specs.Nibbles.{nibble_value};
 ghost use Rattle.tables.specs.Objects.{look, table_size};
 ghost use Rattle.tables.specs.Stacks.{stack_height, stack_room};
 ghost use Rattle.objects.specs.PageChanges.{ChangesPages};
@@ -34,7 +33,7 @@ impl Storage {
     /// A page becomes absent, if it is not already, and the volume page that served it serves nothing any more.
     fn drop_page(&mut self, index: usize, page: Nibble)
         requires { index < table_size self.old.table }
-        ensures { ChangesPages self.old self.new index (λ n. with_page n (nibble_value page) None) }
+        ensures { ChangesPages self.old self.new index (λ n. with_page n page.value None) }
     {
         if let Some(number) = self.table.page(index, page) {
             self.table.set_page(index, page, None);
@@ -56,11 +55,11 @@ impl Storage {
     /// The volume page of a page of a segment. An absent page gets the one on top of the stack.
     pub(crate) fn ensure_page(&mut self, index: usize, page: Nibble) -> VolumePage
         requires index { index < table_size self.old.table }
-        requires enough { 1 - has ((look self.old.table index).page (nibble_value page)) ≤ stack_height self.old.spare }
+        requires enough { 1 - has ((look self.old.table index).page page.value) ≤ stack_height self.old.spare }
         ensures low { number_of result < stack_room self.old.spare }
-        ensures was { (look self.old.table index).page (nibble_value page) ≡ (if is_fresh result then None else Some (number_of result)) }
-        ensures changed { ChangesPages self.old self.new index (λ n. with_page n (nibble_value page) (Some (number_of result))) }
-        ensures height { stack_height self.new.spare + (1 - has ((look self.old.table index).page (nibble_value page))) ≡ stack_height self.old.spare }
+        ensures was { (look self.old.table index).page page.value ≡ (if is_fresh result then None else Some (number_of result)) }
+        ensures changed { ChangesPages self.old self.new index (λ n. with_page n page.value (Some (number_of result))) }
+        ensures height { stack_height self.new.spare + (1 - has ((look self.old.table index).page page.value)) ≡ stack_height self.old.spare }
     {
         match self.table.page(index, page) {
             Some(number) => VolumePage::Held(number),

@@ -6,7 +6,6 @@ ghost use Rattle.rules.specs.Indexed.{sum};
 ghost use Rattle.rules.specs.Segments.{touched, pages_written};
 ghost use Rattle.forest.specs.Nodes.{with_pages};
 ghost use Rattle.forest.specs.Forest.{pages_of};
-ghost use Rattle.tables.specs.Nibbles.{nibble_value};
 ghost use Rattle.tables.specs.Objects.{look, table_size};
 ghost use Rattle.tables.specs.Stacks.{stack_height, stack_room};
 ghost use Rattle.objects.specs.PageChanges.{ChangesPages};
@@ -22,7 +21,7 @@ impl Storage {
     /// Whether a page is absent and has one of the words.
     fn lacks(&self, index: usize, page: Nibble, extent: Extent<'_>) -> bool
         requires { index < table_size self.now.table }
-        ensures { result ≡ (touched extent.entry.first (length extent.entry.words.now) (nibble_value page) && is_none ((look self.now.table index).page (nibble_value page))) }
+        ensures { result ≡ (touched extent.entry.first (length extent.entry.words.now) page.value && is_none ((look self.now.table index).page page.value)) }
     {
         extent.touches(page) && self.table.page(index, page).is_none()
     }
@@ -47,10 +46,10 @@ impl Storage {
     )
         requires index { index < table_size self.old.table }
         requires volume { stack_room self.old.spare ≤ pages_in (V.Volume.words volume.old) }
-        requires enough { lacks extent.first (length extent.words.now) (look self.old.table index).page (nibble_value page) ≤ stack_height self.old.spare }
+        requires enough { lacks extent.first (length extent.words.now) (look self.old.table index).page page.value ≤ stack_height self.old.spare }
         ensures changed { ChangesPages self.old self.new index (λ n. with_pages n (look self.new.table index).page) }
-        ensures height { stack_height self.new.spare + lacks extent.entry.first (length extent.entry.words.now) (look self.old.table index).page (nibble_value page) ≡ stack_height self.old.spare }
-        ensures own { pages_of (told (V.Volume.words volume.new)) (look self.new.table index).page ≡ one_written (pages_of (told (V.Volume.words volume.old)) (look self.old.table index).page) extent.entry.first extent.entry.words.now (nibble_value page) }
+        ensures height { stack_height self.new.spare + lacks extent.entry.first (length extent.entry.words.now) (look self.old.table index).page page.value ≡ stack_height self.old.spare }
+        ensures own { pages_of (told (V.Volume.words volume.new)) (look self.new.table index).page ≡ one_written (pages_of (told (V.Volume.words volume.old)) (look self.old.table index).page) extent.entry.first extent.entry.words.now page.value }
         ensures others { (j : ℕ) → (j ≢ index) → pages_of (told (V.Volume.words volume.new)) (look self.new.table j).page ≡ pages_of (told (V.Volume.words volume.old)) (look self.old.table j).page }
         ensures pages { pages_in (V.Volume.words volume.new) ≡ pages_in (V.Volume.words volume.old) }
         ensures beyond { (x : ℕ) → 16 * stack_room self.old.spare ≤ x → told (V.Volume.words volume.new) x ≡ told (V.Volume.words volume.old) x }

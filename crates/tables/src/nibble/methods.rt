@@ -1,6 +1,6 @@
-//! Numbers below 16 out of others, and back.
+//! Numbers below 16 out of others.
 ghost use Rattle.std.specs.Prelude.{◌≡◌, ◌<◌};
-ghost use Rattle.tables.specs.Nibbles.{nibble_value, IsNibbleOf};
+ghost use Rattle.tables.specs.Nibbles.{IsNibbleOf};
 
 use crate::nibble::{Nibble, TooLarge};
 
@@ -8,17 +8,9 @@ impl Nibble {
     /// The number, which is below 16.
     pub fn new(value: usize) -> Nibble
         requires { value < 16 }
-        ensures { nibble_value result ≡ value }
+        ensures { result.value ≡ value }
     {
         Nibble { value }
-    }
-
-    /// The number.
-    pub fn get(self) -> usize
-        ensures value { result ≡ nibble_value self }
-        ensures small { result < 16 }
-    {
-        self.value
     }
 }
 

@@ -3,7 +3,6 @@ ghost use Rattle.std.specs.Prelude.{◌≡◌, ◌<◌};
 ghost use Rattle.std.specs.Borrow.{sem};
 ghost use Rattle.arrayvec.specs.ArrayVec.{array_vec_len};
 ghost use Rattle.arrayvec.specs.Lends.{lends_item};
-ghost use Rattle.tables.specs.Nibbles.{nibble_value};
 ghost use Rattle.tables.specs.Sixteens.{value_at, lends_value};
 
 use crate::nibble::Nibble;
@@ -22,16 +21,16 @@ impl<T: Copy> Sixteen<T> {
 
     /// The value at an index.
     pub fn find(&self, index: Nibble) -> T
-        ensures { (d : T) → result ≡ value_at self.now d (nibble_value index) }
+        ensures { (d : T) → result ≡ value_at self.now d index.value }
     {
-        self.at[index.get()]
+        self.at[index.value]
     }
 
     /// The value at an index, lent to be changed.
     pub fn slot(&mut self, index: Nibble) -> &mut T
-        ensures* { sem 𝓛 (lends_value T.row self.entry (nibble_value index) result) }
+        ensures* { sem 𝓛 (lends_value T.row self.entry index.value result) }
     {
-        item_mut(&mut self.at, index.get())
+        item_mut(&mut self.at, index.value)
     }
 }
 

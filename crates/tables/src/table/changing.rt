@@ -5,7 +5,6 @@ ghost use Rattle.forest.specs.Forest.{cell_at};
 ghost use Rattle.tables.specs.declared.body.Body.{Body};
 ghost use Rattle.tables.specs.Cells.{CanCharge, CanRegrant};
 ghost use Rattle.tables.specs.Bodies.{body_of};
-ghost use Rattle.tables.specs.Nibbles.{nibble_value};
 ghost use Rattle.tables.specs.Objects.{look, table_size, Changed, ChangesBody};
 
 use crate::body::Body;
@@ -61,7 +60,7 @@ impl Table {
     /// Says which object is at a place of the object, if any.
     pub fn set_entry(&mut self, index: usize, place: Nibble, to: Option<usize>)
         requires { index < table_size self.old }
-        ensures { Changed self.old self.new index (λ n. with_entry n (nibble_value place) to) }
+        ensures { Changed self.old self.new index (λ n. with_entry n place.value to) }
     {
         *self.objects[index].entries.slot(place) = to;
     }
@@ -69,7 +68,7 @@ impl Table {
     /// Says which volume page serves a page of the object, if any.
     pub fn set_page(&mut self, index: usize, page: Nibble, to: Option<usize>)
         requires { index < table_size self.old }
-        ensures { Changed self.old self.new index (λ n. with_page n (nibble_value page) to) }
+        ensures { Changed self.old self.new index (λ n. with_page n page.value to) }
     {
         *self.objects[index].pages.slot(page) = to;
     }

@@ -3,7 +3,6 @@ ghost use Rattle.std.specs.Prelude.{◌≡◌, ◌<◌};
 ghost use Rattle.rules.specs.Indexed.{sum};
 ghost use Rattle.forest.specs.Forest.{has};
 ghost use Rattle.tables.specs.Bodies.{body_of};
-ghost use Rattle.tables.specs.Nibbles.{nibble_value};
 ghost use Rattle.tables.specs.Objects.{look, table_size};
 
 use crate::body::Body;
@@ -61,7 +60,7 @@ impl Table {
     /// The object at a place of the object, if one is there.
     pub fn entry(&self, index: usize, place: Nibble) -> Option<usize>
         requires { index < table_size self.now }
-        ensures { result ≡ (look self.now index).entry (nibble_value place) }
+        ensures { result ≡ (look self.now index).entry place.value }
     {
         self.objects[index].entries.find(place)
     }
@@ -69,7 +68,7 @@ impl Table {
     /// The volume page of a page of the object, if it is present.
     pub fn page(&self, index: usize, page: Nibble) -> Option<usize>
         requires { index < table_size self.now }
-        ensures { result ≡ (look self.now index).page (nibble_value page) }
+        ensures { result ≡ (look self.now index).page page.value }
     {
         self.objects[index].pages.find(page)
     }

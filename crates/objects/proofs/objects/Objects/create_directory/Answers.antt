@@ -5,7 +5,6 @@ use Rattle.rules.specs.Cells.{cost}
 use Rattle.rules.specs.Changes.{create, change_place, change, tree_after}
 use Rattle.rules.proofs.Balance.{Fit, cost_directory, fit_directory}
 use Rattle.forest.specs.Forest.{tree_of, path_to}
-use Rattle.tables.specs.Nibbles.{nibble_value}
 use Rattle.tables.specs.Objects.{look}
 use Rattle.objects.proofs.objects.Objects.create_directory.Goals as goal
 
@@ -28,7 +27,7 @@ returns c =
     record {
       tree = λ w.
           c.insert.ensures.tree w
-          ∙ ap (λ (x : Option Cell). tree_after (path_to a c.args.directory) (change (change_place (nibble_value c.args.place) (create (directory c.args.label x (λ _. empty)))) (1 + c.args.grant) 0) (tree_of w a))
+          ∙ ap (λ (x : Option Cell). tree_after (path_to a c.args.directory) (change (change_place c.args.place.value (create (directory c.args.label x (λ _. empty)))) (1 + c.args.grant) 0) (tree_of w a))
           c.new_cell-cell.ensures;
       stays = c.insert.ensures.stays;
       records = c.insert.ensures.records;

@@ -8,7 +8,6 @@ use Rattle.forest.proofs.Keeping.{formed, payer_has_cell, left_granted, granted_
 use Rattle.forest.proofs.Steps.{bare_cost, Insertion, insertion_done, insertion_stays}
 use Rattle.tables.specs.declared.stack.Stack.{Stack}
 use Rattle.tables.specs.Bodies.{body_of}
-use Rattle.tables.specs.Nibbles.{nibble_value}
 use Rattle.tables.specs.Objects.{look, table_size, change_at}
 use Rattle.tables.specs.Stacks.{stack_item, stack_height, stack_room}
 use Rattle.tables.proofs.Within.{live_within}
@@ -90,7 +89,7 @@ set_place-requires c =
     omega arith
 
 -- what was written is an insertion
-written : (c : After-set_place) → Insertion (look c.args.self.now.storage.table) (look c.set_place.new.self) c.args.directory (nibble_value c.args.place) c.pop-index.result c.args.taken (body_of c.args.body)
+written : (c : After-set_place) → Insertion (look c.args.self.now.storage.table) (look c.set_place.new.self) c.args.directory c.args.place.value c.pop-index.result c.args.taken (body_of c.args.body)
 written c =
     let a = look c.args.self.now.storage.table in
     let before = (goal.at.invariant_of-storage c).After-pop-index in
@@ -98,13 +97,12 @@ written c =
     let low = top_within k c.pop-index.result (some before) (popped before).value in
     let few = few_records k in
     insertion a (look c.charge.new.self.table) (look c.set_entry.new.self) (look c.set_body.new.self) (look c.set_place.new.self)
-    c.args.directory (nibble_value c.args.place) c.pop-index.result (a c.args.directory).payer (a c.args.directory).depth c.payer_of-payer.result c.args.taken (body_of c.args.body)
+    c.args.directory c.args.place.value c.pop-index.result (a c.args.directory).payer (a c.args.directory).depth c.payer_of-payer.result c.args.taken (body_of c.args.body)
     c.requires.directory c.args.place.small c.requires.vacant (top_unused k c.pop-index.result (some before) (popped before).value) (omega arith) c.requires.live
     refl refl (c.payer_of-payer.ensures ∙ ap (cond (celled (body_of c.args.body)) c.pop-index.result) c.payer-above.ensures)
     c.charge.ensures.after c.set_entry.ensures.after c.set_body.ensures.after
     (c.set_place.ensures.after
-    ∙ ap (λ (x : ℕ). change_at (look c.set_body.new.self) c.pop-index.result (λ n. with_place n c.args.directory x (c.depth-depth.result + 1) c.payer_of-payer.result)) c.get.ensures.value
-    ∙ ap (λ (x : ℕ). change_at (look c.set_body.new.self) c.pop-index.result (λ n. with_place n c.args.directory (nibble_value c.args.place) (x + 1) c.payer_of-payer.result)) c.depth-depth.ensures)
+    ∙ ap (λ (x : ℕ). change_at (look c.set_body.new.self) c.pop-index.result (λ n. with_place n c.args.directory c.args.place.value (x + 1) c.payer_of-payer.result)) c.depth-depth.ensures)
 
 kept : (c : After-set_place) → IsKept c.set_place.new.self c.pop-index.new.self c.charge.new.self.spare
 kept c =
@@ -112,7 +110,7 @@ kept c =
     kept_over {u = c.pop-index.new.self} {v = c.pop-index.new.self} (ap stack_room c.charge.ensures.spare) refl
     (spares_over c.charge.ensures.spare
     (kept_left _ _ _ was.items
-    (insertion_kept c.args.self.now.kept c.args.directory (nibble_value c.args.place) c.pop-index.result c.args.taken (body_of c.args.body) (written c)
+    (insertion_kept c.args.self.now.kept c.args.directory c.args.place.value c.pop-index.result c.args.taken (body_of c.args.body) (written c)
     _ _ refl was.height was.value c.requires.fit c.requires.cost c.requires.paid)))
 
 pub invariant_of-storage : goal.invariant_of-storage
@@ -128,7 +126,7 @@ returns c =
     let s = formed c.args.self.now.kept in
     let i = written (goal.at.returns c).After-set_place in
     record {
-      tree = (insertion_done _ _ s c.args.directory (nibble_value c.args.place) c.pop-index.result c.args.taken (body_of c.args.body) i 0 c.requires.fit c.requires.cost c.requires.paid).tree;
-      stays = insertion_stays _ _ s c.args.directory (nibble_value c.args.place) c.pop-index.result c.args.taken (body_of c.args.body) i;
+      tree = (insertion_done _ _ s c.args.directory c.args.place.value c.pop-index.result c.args.taken (body_of c.args.body) i 0 c.requires.fit c.requires.cost c.requires.paid).tree;
+      stays = insertion_stays _ _ s c.args.directory c.args.place.value c.pop-index.result c.args.taken (body_of c.args.body) i;
       records = ap stack_room c.charge.ensures.spare;
     }

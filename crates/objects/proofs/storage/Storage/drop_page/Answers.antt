@@ -3,7 +3,6 @@ use Rattle.std.proofs.Common.{◌≡◌, suc, None, sym, refl, ◌∙◌, arith}
 use mathlib.Core.Logic.{∥∥₁_elim, ∥∥₁_map}
 use native.Mathlib.Bridge.{le_prop}
 use Rattle.forest.proofs.Serving.{page_dropped, served_room}
-use Rattle.tables.specs.Nibbles.{nibble_value}
 use Rattle.tables.specs.Objects.{look}
 use Rattle.tables.specs.Stacks.{stack_item, stack_height, stack_room}
 use Rattle.objects.proofs.Storing.{short_page, stocked_page, served_as}
@@ -14,7 +13,7 @@ push-requires c =
     let s = c.args.self.now in
     let low = c.requires in
     let few = s.table.few in
-    ∥∥₁_elim s.served le_prop (served_room (stack_room s.spare) (stack_item s.spare) (stack_height s.spare) (look s.table) c.args.index (nibble_value c.args.page) c.in-Some.number (omega arith) c.args.page.small (sym c.page.ensures ∙ c.in-Some.is))
+    ∥∥₁_elim s.served le_prop (served_room (stack_room s.spare) (stack_item s.spare) (stack_height s.spare) (look s.table) c.args.index c.args.page.value c.in-Some.number (omega arith) c.args.page.small (sym c.page.ensures ∙ c.in-Some.is))
 
 pub invariant_of-self : goal.invariant_of-self
 invariant_of-self c =
@@ -32,10 +31,10 @@ invariant_of-self c =
     record {
       sized = omega arith;
       roomy = omega arith;
-      short = short_page a b c.args.index (nibble_value c.args.page) None c.args.page.small after s.short;
-      stocked = stocked_page a b c.args.index (nibble_value c.args.page) None after room s.stocked;
+      short = short_page a b c.args.index c.args.page.value None c.args.page.small after s.short;
+      stocked = stocked_page a b c.args.index c.args.page.value None after room s.stocked;
       served =
           served_as room c.push.ensures.items height
-          (∥∥₁_map s.served (page_dropped a b (stack_room s.spare) (stack_item s.spare) (stack_height s.spare) c.args.index (nibble_value c.args.page) None
+          (∥∥₁_map s.served (page_dropped a b (stack_room s.spare) (stack_item s.spare) (stack_height s.spare) c.args.index c.args.page.value None
           (omega arith) c.args.page.small after c.in-Some.number (sym c.page.ensures ∙ c.in-Some.is) refl));
     }

@@ -4,7 +4,6 @@ use mathlib.Core.Logic.{∥∥₁_elim, ∥∥₁_map}
 use native.Mathlib.Bridge.{le_prop}
 use Rattle.forest.specs.Spares.{Served}
 use Rattle.forest.proofs.Serving.{page_taken}
-use Rattle.tables.specs.Nibbles.{nibble_value}
 use Rattle.tables.specs.Objects.{look}
 use Rattle.tables.specs.Stacks.{stack_item, stack_height, stack_room}
 use Rattle.objects.proofs.Popped.{served_left}
@@ -30,7 +29,7 @@ invariant_of-self c =
     let a = look s.table in
     let b = look c.set_page.new.self in
     let i = c.args.index in
-    let k = (nibble_value c.args.page) in
+    let k = c.args.page.value in
     let before = (goal.at.invariant_of-self c).After-pop-number in
     let after = c.set_page.ensures.after in
     let low = c.requires.index in
@@ -52,7 +51,7 @@ invariant_of-self c =
     }
 
 pub returns-in-Some-clause-low : goal.returns-in-Some-clause-low
-returns-in-Some-clause-low c = ∥∥₁_elim c.args.self.now.served le_prop (λ s. s.used c.args.index (nibble_value c.args.page) c.in-Some.number (sym c.page.ensures ∙ c.in-Some.is))
+returns-in-Some-clause-low c = ∥∥₁_elim c.args.self.now.served le_prop (λ s. s.used c.args.index c.args.page.value c.in-Some.number (sym c.page.ensures ∙ c.in-Some.is))
 
 pub returns-in-None-clause-low : goal.returns-in-None-clause-low
 returns-in-None-clause-low c =

@@ -6,13 +6,12 @@ use Rattle.forest.proofs.PageWords.{page_start, page_past, page_next}
 use Rattle.volumes.specs.Pages.{pages_in, inside, written}
 use Rattle.volumes.specs.Insides.{index_inside, inside_written}
 use Rattle.tables.proofs.Items.{items_set}
-use Rattle.tables.specs.Nibbles.{nibble_value}
 use Rattle.objects.specs.VolumePages.{number_of, is_fresh}
 use Rattle.objects.specs.Writes.{told}
 use Rattle.objects.proofs.volume_page.VolumePage.write.Goals as goal
 
 pub loop-word-init : goal.loop-word-init
-loop-word-init g c = (refl, λ x. sym (page_start (told (g.V.Volume.words c.args.volume.now)) (number_of c.args.self) (is_fresh c.args.self) (nibble_value c.args.page) c.args.extent.first c.args.extent.words.now x))
+loop-word-init g c = (refl, λ x. sym (page_start (told (g.V.Volume.words c.args.volume.now)) (number_of c.args.self) (is_fresh c.args.self) c.args.page.value c.args.extent.first c.args.extent.words.now x))
 
 pub loop-word-preserved : goal.loop-word-preserved
 loop-word-preserved g c =
@@ -26,14 +25,13 @@ loop-word-preserved g c =
     let low = c.requires in
     let same = c.loop-word.invariant.0 in
     let there : inside ws p q ≡ true = and_from _ _ (lt-ltb p (pages_in ws) (omega arith)) (lt-ltb q 16 (omega arith)) in
-    let old = c.loop-word.invariant.1 (p * 16 + q) ∙ page_past w p fresh (nibble_value c.args.page) first ds q q (omega arith) in
+    let old = c.loop-word.invariant.1 (p * 16 + q) ∙ page_past w p fresh c.args.page.value first ds q q (omega arith) in
     let value =
     c.new_word-value.ensures
-    ∙ ap (λ (k : ℕ). word_over first ds (16 * k + q) (cond fresh 0 (told ws (p * 16 + q)))) c.get.ensures.value
-    ∙ ap (λ (z : ℕ). word_over first ds (16 * (nibble_value c.args.page) + q) (cond fresh 0 z)) old in
+    ∙ ap (λ (z : ℕ). word_over first ds (16 * c.args.page.value + q) (cond fresh 0 z)) old in
     let set = c.write.ensures.words ∙ ap (λ (u : ℕ). written ws u q c.new_word-value.result) c.number-number.ensures ∙ sym (inside_written ws p q c.new_word-value.result there) in
     let items = items_set ws (p * 16 + q) c.new_word-value.result 0 (index_inside ws p q there) in (
       c.write.ensures.pages ∙ same,
       λ x. ap (λ (l : List ℕ). told l x) set ∙ ap (λ (f : ℕ → ℕ). f x) items ∙ ap₂ (cond (eqb x (p * 16 + q))) value (c.loop-word.invariant.1 x)
-          ∙ page_next w p fresh (nibble_value c.args.page) first ds q x,
+          ∙ page_next w p fresh c.args.page.value first ds q x,
     )

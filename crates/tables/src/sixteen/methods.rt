@@ -34,7 +34,8 @@ impl<T: Copy> Sixteen<T> {
     }
 }
 
-/// An item, lent to be changed. The loan goes through a call of its own, since what `Sixteen` keeps is shown at one.
+/// An item, lent to be changed. It is a function of its own since `slot`, whose struct has a ghost field, is proved only
+/// where its body is one call.
 fn item_mut<T, const N: usize, A>(items: &mut ArrayVec<T, N, A>, index: usize) -> &mut T
     requires { index < array_vec_len items.old }
     ensures* { sem 𝓛 (lends_item T.row N.row A.row items.entry index result) }

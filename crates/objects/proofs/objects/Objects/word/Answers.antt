@@ -6,10 +6,15 @@ use Rattle.std.proofs.lemmas.Bool.{and_from}
 use Rattle.volumes.specs.Pages.{pages_in, inside}
 use Rattle.volumes.specs.Insides.{inside_read}
 use Rattle.forest.proofs.PageWords.{word_present}
+use Rattle.forest.proofs.Paged.{seg_live}
 use Rattle.tables.specs.Objects.{look}
 use Rattle.tables.specs.Stacks.{stack_room}
+use Rattle.tables.proofs.Within.{live_within}
 use Rattle.objects.specs.Writes.{told}
 use Rattle.objects.proofs.objects.Objects.word.Goals as goal
+
+pub page-requires : goal.page-requires
+page-requires g c = live_within c.args.self.now.storage.table c.args.segment (seg_live _ c.requires.segment)
 
 pub returns-in-Some : goal.returns-in-Some
 returns-in-Some g c =
@@ -17,7 +22,7 @@ returns-in-Some g c =
     let links : ℕ → Option ℕ = (look c.args.self.now.storage.table c.args.segment).page in
     let at = c.args.index in
     let page = c.in-Some.page in
-    let is : links (at / 16) ≡ Some page = sym c.page.ensures ∙ c.in-Some.is in
+    let is : links (at / 16) ≡ Some page = sym (c.page.ensures ∙ ap links c.new.ensures) ∙ c.in-Some.is in
     let low : page < stack_room c.args.self.now.storage.spare = ∥∥₁_elim c.args.self.now.kept le_prop (λ z. z.served.used c.args.segment (at / 16) page is) in
     let fits = c.requires.volume in
     let there : inside ws page (at % 16) ≡ true = and_from _ _ (lt-ltb page (pages_in ws) (omega arith)) (lt-ltb (at % 16) 16 (omega arith)) in

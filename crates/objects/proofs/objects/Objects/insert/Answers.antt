@@ -10,19 +10,12 @@ use Rattle.tables.specs.declared.stack.Stack.{Stack}
 use Rattle.tables.specs.Bodies.{body_of}
 use Rattle.tables.specs.Objects.{look, table_size, change_at}
 use Rattle.tables.specs.Stacks.{stack_item, stack_height, stack_room}
-use Rattle.tables.proofs.Within.{live_within}
 use Rattle.objects.specs.Storing.{IsKept}
 use Rattle.objects.proofs.Charging.{can_charge}
 use Rattle.objects.proofs.Popped.{kept_left}
-use Rattle.objects.proofs.Storing.{kept_over, spares_over, stored, within_both}
+use Rattle.objects.proofs.Storing.{kept_over, spares_over, stored}
 use Rattle.objects.proofs.objects.Objects.insert.Goals.{After-charge, After-pop-index, After-set_place}
 use Rattle.objects.proofs.objects.Objects.insert.Goals as goal
-
-pub payer-above-requires : goal.payer-above-requires
-payer-above-requires c = live_within c.args.self.now.storage.table c.args.directory (dir_live _ c.requires.directory)
-
-pub depth-depth-requires : goal.depth-depth-requires
-depth-depth-requires c = live_within c.args.self.now.storage.table c.args.directory (dir_live _ c.requires.directory)
 
 pub overflow_add-depth : goal.overflow_add-depth
 overflow_add-depth c =
@@ -71,9 +64,6 @@ within c =
     let sized = c.charge.new.self.sized in
     let same = ap stack_room c.charge.ensures.spare in
     omega arith
-
-pub set_entry-requires : goal.set_entry-requires
-set_entry-requires c = within_both c.args.self.now.storage c.charge.new.self c.args.directory c.charge.ensures.spare (dir_live _ c.requires.directory)
 
 pub set_body-requires : goal.set_body-requires
 set_body-requires c =

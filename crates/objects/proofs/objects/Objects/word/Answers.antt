@@ -6,15 +6,10 @@ use Rattle.std.proofs.lemmas.Bool.{and_from}
 use Rattle.volumes.specs.Pages.{pages_in, inside}
 use Rattle.volumes.specs.Insides.{inside_read}
 use Rattle.forest.proofs.PageWords.{word_present}
-use Rattle.forest.proofs.Paged.{seg_live}
 use Rattle.tables.specs.Objects.{look}
 use Rattle.tables.specs.Stacks.{stack_room}
-use Rattle.tables.proofs.Within.{live_within}
 use Rattle.objects.specs.Writes.{told}
 use Rattle.objects.proofs.objects.Objects.word.Goals as goal
-
-pub page-requires : goal.page-requires
-page-requires g c = live_within c.args.self.now.storage.table c.args.segment (seg_live _ c.requires.segment)
 
 pub returns-in-Some : goal.returns-in-Some
 returns-in-Some g c =

@@ -1,18 +1,11 @@
 -- What is left to show of `drop_pages`.
-use Rattle.std.proofs.Common.{ℕ, None, Option, refl, ap, ◌∙◌, arith}
+use Rattle.std.proofs.Common.{ℕ, None, Option, ap, ◌∙◌}
 use Rattle.rules.specs.Indexed.{assign}
 use Rattle.forest.specs.Nodes.{with_page, with_pages}
-use Rattle.forest.proofs.Paged.{page_again, page_self}
-use Rattle.forest.proofs.Truncate.{cut_upto, cut_start, cut_next, cut_end}
+use Rattle.forest.proofs.Paged.{page_again}
+use Rattle.forest.proofs.Truncate.{cut_upto, cut_next}
 use Rattle.tables.specs.Objects.{look, change_at}
 use Rattle.objects.proofs.storage.Storage.drop_pages.Goals as goal
-
-pub loop-page-init : goal.loop-page-init
-loop-page-init c = record {
-  after = page_self (look c.args.self.now.table) c.args.index _ (cut_start c.args.keep (look c.args.self.now.table c.args.index).page);
-  unused = refl;
-  room = refl;
-}
 
 pub loop-page-preserved : goal.loop-page-preserved
 loop-page-preserved c =
@@ -27,15 +20,4 @@ loop-page-preserved c =
           ∙ ap (λ (ps : ℕ → Option ℕ). assign a i (with_pages (a i) ps)) (cut_next c.args.keep k (a i).page c.loop-page.auto.page);
       unused = c.drop_page.ensures.unused ∙ inv.unused;
       room = c.drop_page.ensures.room ∙ inv.room;
-    }
-
-pub returns : goal.returns
-returns c =
-    let a = look c.args.self.now.table in
-    let i = c.args.index in
-    let inv = c.loop-page.invariant in
-    record {
-      after = inv.after ∙ ap (λ (ps : ℕ → Option ℕ). assign a i (with_pages (a i) ps)) (cut_end c.args.keep c.loop-page.page (a i).page (omega arith) (c.args.self.now.short i));
-      unused = inv.unused;
-      room = inv.room;
     }

@@ -1,17 +1,14 @@
 -- What is left to show of `write`.
-use Rattle.std.proofs.Common.{◌≡◌, ℕ, ◌+◌, ◌*◌, true, cond, eqb, List, sym, refl, ap, ◌∙◌, ap₂, arith, lt-ltb}
+use Rattle.std.proofs.Common.{◌≡◌, ℕ, ◌+◌, ◌*◌, true, cond, eqb, List, sym, ap, ◌∙◌, ap₂, arith, lt-ltb}
 use Rattle.std.proofs.lemmas.Bool.{and_from}
 use Rattle.forest.specs.Words.{word_over}
-use Rattle.forest.proofs.PageWords.{page_start, page_past, page_next}
+use Rattle.forest.proofs.PageWords.{page_past, page_next}
 use Rattle.volumes.specs.Pages.{pages_in, inside, written}
 use Rattle.volumes.specs.Insides.{index_inside, inside_written}
 use Rattle.tables.proofs.Items.{items_set}
 use Rattle.objects.specs.VolumePages.{number_of, is_fresh}
 use Rattle.objects.specs.Writes.{told}
 use Rattle.objects.proofs.volume_page.VolumePage.write.Goals as goal
-
-pub loop-word-init : goal.loop-word-init
-loop-word-init g c = (refl, λ x. sym (page_start (told (g.V.Volume.words c.args.volume.now)) (number_of c.args.self) (is_fresh c.args.self) c.args.page.value c.args.extent.first c.args.extent.words.now x))
 
 pub loop-word-preserved : goal.loop-word-preserved
 loop-word-preserved g c =

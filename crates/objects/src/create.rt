@@ -14,7 +14,7 @@ ghost use Rattle.objects.specs.Views.{nodes, records};
 
 use crate::objects::Objects;
 use labels::Label;
-use tables::{Body, Cell, Directory};
+use tables::{Body, Cell, Directory, Nibble};
 
 /// Whose cell an object uses: its own where it has one, or else the one that its directory uses.
 fn payer_of(body: Body, index: usize, above: usize) -> usize
@@ -32,15 +32,14 @@ fn new_cell(grant: u32) -> Option<Cell>
 
 impl Objects {
     /// Puts a new object at an empty place of a directory. The cell that the directory uses pays for it.
-    fn insert(&mut self, directory: usize, place: usize, body: Body, taken: u32)
+    fn insert(&mut self, directory: usize, place: Nibble, body: Body, taken: u32)
         requires directory { IsDir (nodes self.old directory).body }
-        requires within { place < 16 }
-        requires vacant { (nodes self.old directory).entry place ≡ None }
+        requires vacant { (nodes self.old directory).entry place.value ≡ None }
         requires live { IsLive (body_of body) }
         requires fit { Fit (bare_tree (body_of body)) }
         requires cost { cost (bare_tree (body_of body)) ≡ taken }
         requires paid { taken ≤ (cell_at (nodes self.old) (nodes self.old directory).payer).left }
-        ensures tree { Enacted (nodes self.old) (nodes self.new) (path_to (nodes self.old) directory) (change (change_place place (create (bare_tree (body_of body)))) taken 0) }
+        ensures tree { Enacted (nodes self.old) (nodes self.new) (path_to (nodes self.old) directory) (change (change_place place.value (create (bare_tree (body_of body)))) taken 0) }
         ensures stays { Stays (nodes self.old) (nodes self.new) }
         ensures records { records self.new ≡ records self.old }
     {
@@ -54,18 +53,17 @@ impl Objects {
         storage.table.set_body(index, body);
         storage
             .table
-            .set_place(index, directory, place, depth, payer);
+            .set_place(index, directory, place.value, depth, payer);
     }
 }
 
 impl Objects {
     /// Puts a segment without pages at an empty place of a directory.
-    pub fn create_segment(&mut self, directory: usize, place: usize)
+    pub fn create_segment(&mut self, directory: usize, place: Nibble)
         requires directory { IsDir (nodes self.old directory).body }
-        requires within { place < 16 }
-        requires vacant { (nodes self.old directory).entry place ≡ None }
+        requires vacant { (nodes self.old directory).entry place.value ≡ None }
         requires paid { 1 ≤ (cell_at (nodes self.old) (nodes self.old directory).payer).left }
-        ensures tree { Enacted (nodes self.old) (nodes self.new) (path_to (nodes self.old) directory) (change (change_place place (create new_segment)) 1 0) }
+        ensures tree { Enacted (nodes self.old) (nodes self.new) (path_to (nodes self.old) directory) (change (change_place place.value (create new_segment)) 1 0) }
         ensures stays { Stays (nodes self.old) (nodes self.new) }
         ensures records { records self.new ≡ records self.old }
     {
@@ -73,13 +71,12 @@ impl Objects {
     }
 
     /// Puts a directory at an empty place of a directory, with a cell if the grant is not 0.
-    pub fn create_directory(&mut self, directory: usize, place: usize, label: Label, grant: u32)
+    pub fn create_directory(&mut self, directory: usize, place: Nibble, label: Label, grant: u32)
         requires directory { IsDir (nodes self.old directory).body }
-        requires within { place < 16 }
         requires small { grant ≤ 256 }
-        requires vacant { (nodes self.old directory).entry place ≡ None }
+        requires vacant { (nodes self.old directory).entry place.value ≡ None }
         requires paid { 1 + grant ≤ (cell_at (nodes self.old) (nodes self.old directory).payer).left }
-        ensures tree { Enacted (nodes self.old) (nodes self.new) (path_to (nodes self.old) directory) (change (change_place place (create (new_directory label grant))) (1 + grant) 0) }
+        ensures tree { Enacted (nodes self.old) (nodes self.new) (path_to (nodes self.old) directory) (change (change_place place.value (create (new_directory label grant))) (1 + grant) 0) }
         ensures stays { Stays (nodes self.old) (nodes self.new) }
         ensures records { records self.new ≡ records self.old }
     {

@@ -3,6 +3,7 @@ ghost use Rattle.std.specs.Prelude.{◌≡◌, ℕ, ◌+◌, ◌<◌, ◌≤◌,
 ghost use Rattle.rules.specs.Segments.{touched};
 ghost use Rattle.forest.specs.Words.{word_over};
 
+use tables::Nibble;
 use volumes::PAGE_WORDS;
 
 /// Words for a segment, of which the first is to be its word `first`.
@@ -15,10 +16,10 @@ pub(crate) struct Extent<'a> {
 
 impl Extent<'_> {
     /// Whether a page has one of the words.
-    pub(crate) fn touches(self, page: usize) -> bool
-        requires { page < 16 }
-        ensures { result ≡ touched self.entry.first (length self.entry.words.now) page }
+    pub(crate) fn touches(self, page: Nibble) -> bool
+        ensures { result ≡ touched self.entry.first (length self.entry.words.now) page.value }
     {
+        let page = page.value;
         self.first / PAGE_WORDS <= page && PAGE_WORDS * page < self.first + self.words.len()
     }
 

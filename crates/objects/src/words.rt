@@ -7,6 +7,7 @@ ghost use Rattle.objects.specs.Writes.{told};
 
 use crate::extent::Extent;
 use crate::volume_page::VolumePage;
+use tables::Nibble;
 use volumes::{PAGE_WORDS, Volume};
 
 impl VolumePage {
@@ -20,15 +21,14 @@ impl VolumePage {
     }
 
     /// Puts the words that fall into page `page` of a segment, which it serves, into it. A fresh page has zeros elsewhere.
-    pub(crate) fn write<V: Volume>(self, volume: &mut V, page: usize, extent: Extent<'_>)
-        requires inside { number_of self < pages_in (V.Volume.words volume.old) }
-        requires page { page < 16 }
+    pub(crate) fn write<V: Volume>(self, volume: &mut V, page: Nibble, extent: Extent<'_>)
+        requires { number_of self < pages_in (V.Volume.words volume.old) }
         ensures pages { pages_in (V.Volume.words volume.new) ≡ pages_in (V.Volume.words volume.old) }
-        ensures words { (x : ℕ) → told (V.Volume.words volume.new) x ≡ page_written (told (V.Volume.words volume.old)) (number_of self) (is_fresh self) page extent.entry.first extent.entry.words.now 16 x }
+        ensures words { (x : ℕ) → told (V.Volume.words volume.new) x ≡ page_written (told (V.Volume.words volume.old)) (number_of self) (is_fresh self) page.value extent.entry.first extent.entry.words.now 16 x }
     {
         let number = self.number();
         for word in 0..PAGE_WORDS {
-            let value = self.new_word(volume, word, PAGE_WORDS * page + word, extent);
+            let value = self.new_word(volume, word, PAGE_WORDS * page.value + word, extent);
             let _ = volume.write(number, word, value);
         }
     }

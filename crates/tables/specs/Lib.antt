@@ -1,3 +1,4 @@
+pub mod Nibbles
 pub mod Cells
 pub mod Bodies
 pub mod Sixteens

@@ -4,6 +4,7 @@ ghost use Rattle.tables.specs.Forgotten.{forgotten};
 ghost use Rattle.tables.specs.KnownTables.{known_at, first_known};
 
 use crate::known::Known;
+use crate::nibble::Nibble;
 use crate::sixteen::Sixteen;
 
 /// A process's sixteen known numbers.
@@ -15,7 +16,7 @@ impl Sixteen<Known> {
         ensures { known_at result ≡ first_known }
     {
         let mut table = Sixteen::filled(Known::Free);
-        *table.slot(0) = Known::Means(0);
+        *table.slot(Nibble::new(0)) = Known::Means(0);
         table
     }
 

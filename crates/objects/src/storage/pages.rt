@@ -10,6 +10,7 @@ ghost use Rattle.objects.specs.VolumePages.{number_of, is_fresh};
 
 use crate::storage::Storage;
 use crate::volume_page::VolumePage;
+use tables::Nibble;
 
 /// A segment has so many pages.
 pub(crate) const PAGES: usize = 16;
@@ -22,15 +23,17 @@ impl Storage {
         ensures value { result ≡ sum 16 (λ k. (if nat_lt k keep then 0 else has ((look self.now.table index).page k))) }
         ensures few { result ≤ 16 }
     {
-        let present = (keep..PAGES).filter(|page| self.table.page(index, *page).is_some());
+        let present = (keep..PAGES).filter(|page| self
+            .table
+            .page(index, Nibble::new(*page))
+            .is_some());
         present.count() as u32
     }
 
     /// A page becomes absent, if it is not already, and the volume page that served it serves nothing any more.
-    fn drop_page(&mut self, index: usize, page: usize)
-        requires index { index < table_size self.old.table }
-        requires page { page < 16 }
-        ensures { ChangesPages self.old self.new index (λ n. with_page n page None) }
+    fn drop_page(&mut self, index: usize, page: Nibble)
+        requires { index < table_size self.old.table }
+        ensures { ChangesPages self.old self.new index (λ n. with_page n page.value None) }
     {
         if let Some(number) = self.table.page(index, page) {
             self.table.set_page(index, page, None);
@@ -45,19 +48,18 @@ impl Storage {
         ensures { ChangesPages self.old self.new index (λ n. with_pages n (cut_links keep n.page)) }
     {
         for page in keep..PAGES {
-            self.drop_page(index, page);
+            self.drop_page(index, Nibble::new(page));
         }
     }
 
     /// The volume page of a page of a segment. An absent page gets the one on top of the stack.
-    pub(crate) fn ensure_page(&mut self, index: usize, page: usize) -> VolumePage
+    pub(crate) fn ensure_page(&mut self, index: usize, page: Nibble) -> VolumePage
         requires index { index < table_size self.old.table }
-        requires page { page < 16 }
-        requires enough { 1 - has ((look self.old.table index).page page) ≤ stack_height self.old.spare }
+        requires enough { 1 - has ((look self.old.table index).page page.value) ≤ stack_height self.old.spare }
         ensures low { number_of result < stack_room self.old.spare }
-        ensures was { (look self.old.table index).page page ≡ (if is_fresh result then None else Some (number_of result)) }
-        ensures changed { ChangesPages self.old self.new index (λ n. with_page n page (Some (number_of result))) }
-        ensures height { stack_height self.new.spare + (1 - has ((look self.old.table index).page page)) ≡ stack_height self.old.spare }
+        ensures was { (look self.old.table index).page page.value ≡ (if is_fresh result then None else Some (number_of result)) }
+        ensures changed { ChangesPages self.old self.new index (λ n. with_page n page.value (Some (number_of result))) }
+        ensures height { stack_height self.new.spare + (1 - has ((look self.old.table index).page page.value)) ≡ stack_height self.old.spare }
     {
         match self.table.page(index, page) {
             Some(number) => VolumePage::Held(number),

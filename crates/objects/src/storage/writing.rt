@@ -14,14 +14,14 @@ ghost use Rattle.objects.specs.Writes.{told, lacks, one_written};
 use crate::extent::Extent;
 use crate::storage::Storage;
 use crate::storage::pages::PAGES;
+use tables::Nibble;
 use volumes::Volume;
 
 impl Storage {
     /// Whether a page is absent and has one of the words.
-    fn lacks(&self, index: usize, page: usize, extent: Extent<'_>) -> bool
-        requires index { index < table_size self.now.table }
-        requires page { page < 16 }
-        ensures { result ≡ (touched extent.entry.first (length extent.entry.words.now) page && is_none ((look self.now.table index).page page)) }
+    fn lacks(&self, index: usize, page: Nibble, extent: Extent<'_>) -> bool
+        requires { index < table_size self.now.table }
+        ensures { result ≡ (touched extent.entry.first (length extent.entry.words.now) page.value && is_none ((look self.now.table index).page page.value)) }
     {
         extent.touches(page) && self.table.page(index, page).is_none()
     }
@@ -32,7 +32,7 @@ impl Storage {
         ensures value { result ≡ sum 16 (lacks extent.entry.first (length extent.entry.words.now) (look self.now.table index).page) }
         ensures few { result ≤ 16 }
     {
-        let missing = (0..PAGES).filter(|page| self.lacks(index, *page, extent));
+        let missing = (0..PAGES).filter(|page| self.lacks(index, Nibble::new(*page), extent));
         missing.count() as u32
     }
 
@@ -41,16 +41,15 @@ impl Storage {
         &mut self,
         volume: &mut V,
         index: usize,
-        page: usize,
+        page: Nibble,
         extent: Extent<'_>,
     )
         requires index { index < table_size self.old.table }
-        requires page { page < 16 }
         requires volume { stack_room self.old.spare ≤ pages_in (V.Volume.words volume.old) }
-        requires enough { lacks extent.first (length extent.words.now) (look self.old.table index).page page ≤ stack_height self.old.spare }
+        requires enough { lacks extent.first (length extent.words.now) (look self.old.table index).page page.value ≤ stack_height self.old.spare }
         ensures changed { ChangesPages self.old self.new index (λ n. with_pages n (look self.new.table index).page) }
-        ensures height { stack_height self.new.spare + lacks extent.entry.first (length extent.entry.words.now) (look self.old.table index).page page ≡ stack_height self.old.spare }
-        ensures own { pages_of (told (V.Volume.words volume.new)) (look self.new.table index).page ≡ one_written (pages_of (told (V.Volume.words volume.old)) (look self.old.table index).page) extent.entry.first extent.entry.words.now page }
+        ensures height { stack_height self.new.spare + lacks extent.entry.first (length extent.entry.words.now) (look self.old.table index).page page.value ≡ stack_height self.old.spare }
+        ensures own { pages_of (told (V.Volume.words volume.new)) (look self.new.table index).page ≡ one_written (pages_of (told (V.Volume.words volume.old)) (look self.old.table index).page) extent.entry.first extent.entry.words.now page.value }
         ensures others { (j : ℕ) → (j ≢ index) → pages_of (told (V.Volume.words volume.new)) (look self.new.table j).page ≡ pages_of (told (V.Volume.words volume.old)) (look self.old.table j).page }
         ensures pages { pages_in (V.Volume.words volume.new) ≡ pages_in (V.Volume.words volume.old) }
         ensures beyond { (x : ℕ) → 16 * stack_room self.old.spare ≤ x → told (V.Volume.words volume.new) x ≡ told (V.Volume.words volume.old) x }
@@ -77,7 +76,7 @@ impl Storage {
         ensures beyond { (x : ℕ) → 16 * stack_room self.old.spare ≤ x → told (V.Volume.words volume.new) x ≡ told (V.Volume.words volume.old) x }
     {
         for page in 0..PAGES {
-            self.write_one(volume, index, page, extent);
+            self.write_one(volume, index, Nibble::new(page), extent);
         }
     }
 }

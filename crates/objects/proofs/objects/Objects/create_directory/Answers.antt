@@ -11,7 +11,6 @@ insert-requires c =
     let is = sym c.new_cell-cell.ensures in
     record {
       directory = c.requires.directory;
-      within = c.requires.within;
       vacant = c.requires.vacant;
       live = tt;
       fit = subst (λ (x : Option Cell). Fit (directory l x (λ _. empty))) is (fit_directory l c.args.grant);

@@ -5,7 +5,6 @@ use Rattle.objects.proofs.objects.Objects.create_segment.Goals as goal
 pub insert-requires : goal.insert-requires
 insert-requires c = record {
   directory = c.requires.directory;
-  within = c.requires.within;
   vacant = c.requires.vacant;
   live = tt;
   fit = tt;

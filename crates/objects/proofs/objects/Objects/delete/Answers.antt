@@ -9,7 +9,7 @@ use Rattle.forest.proofs.Keeping.{formed, subtree_records}
 use Rattle.forest.proofs.Removing.{unlinking, unlinking_live, unlinked_is, removal, removal_kept}
 use Rattle.forest.proofs.Steps.{Removal, removal_done, removal_stays}
 use Rattle.forest.proofs.Stock.{alive}
-use Rattle.tables.specs.Objects.{look}
+use Rattle.tables.specs.Objects.{look, change_at}
 use Rattle.tables.specs.Stacks.{stack_item, stack_height, stack_room}
 use Rattle.objects.proofs.Charging.{can_charge}
 use Rattle.objects.proofs.Storing.{entry_pages, served_as, stocked_as, stored_same, within_both}
@@ -26,12 +26,19 @@ charge-requires c =
 pub set_entry-requires : goal.set_entry-requires
 set_entry-requires c =
     let h = (formed c.args.self.now.kept).down c.args.directory c.args.place c.args.child c.requires.there in
-    record { index = within_both c.args.self.now.storage c.charge.new.self c.args.directory c.charge.ensures.spare (dir_live _ h.whole); place = h.within }
+    within_both c.args.self.now.storage c.charge.new.self c.args.directory c.charge.ensures.spare (dir_live _ h.whole)
+
+pub new-requires : goal.new-requires
+new-requires c = ((formed c.args.self.now.kept).down c.args.directory c.args.place c.args.child c.requires.there).within
+
+-- the place is empty
+emptied : (c : After-set_entry) → look c.set_entry.new.self ≡ change_at (look c.charge.new.self.table) c.args.directory (λ n. with_entry n c.args.place None)
+emptied c = c.set_entry.ensures.after ∙ ap (λ (e : ℕ). change_at (look c.charge.new.self.table) c.args.directory (λ n. with_entry n e None)) c.new.ensures
 
 -- the table before the marked objects leave use
 unlinked : (c : After-set_entry) → look c.set_entry.new.self ≡ unlinking c.weights-back.result (look c.args.self.now.storage.table) c.args.directory c.args.place
 unlinked c =
-    unlinked_is (look c.args.self.now.storage.table) (look c.charge.new.self.table) (look c.set_entry.new.self) c.args.directory c.args.place _ c.weights-back.result refl c.charge.ensures.after c.set_entry.ensures.after
+    unlinked_is (look c.args.self.now.storage.table) (look c.charge.new.self.table) (look c.set_entry.new.self) c.args.directory c.args.place _ c.weights-back.result refl c.charge.ensures.after (emptied c)
 
 pub invariant_of-storage : goal.invariant_of-storage
 invariant_of-storage c =
@@ -40,7 +47,7 @@ invariant_of-storage c =
     let b = look c.set_entry.new.self in
     let d = c.args.directory in
     let e = c.args.place in
-    let after = c.set_entry.ensures.after in
+    let after = emptied (goal.at.invariant_of-storage c).After-set_entry in
     stored_same s c.set_entry.new.self c.set_entry.ensures.size (entry_pages a b d e None after) (paged_live a b d (λ n. with_entry n e None) (λ n. refl) after)
 
 pub release_marked-requires : goal.release_marked-requires

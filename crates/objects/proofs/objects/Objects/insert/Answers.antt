@@ -79,7 +79,7 @@ set_place-requires c =
     omega arith
 
 -- what was written is an insertion
-written : (c : After-set_place) → Insertion (look c.args.self.now.storage.table) (look c.set_place.new.self) c.args.directory c.args.place c.pop-index.result c.args.taken (body_of c.args.body)
+written : (c : After-set_place) → Insertion (look c.args.self.now.storage.table) (look c.set_place.new.self) c.args.directory c.args.place.value c.pop-index.result c.args.taken (body_of c.args.body)
 written c =
     let a = look c.args.self.now.storage.table in
     let before = (goal.at.invariant_of-storage c).After-pop-index in
@@ -87,11 +87,12 @@ written c =
     let low = top_within k c.pop-index.result (some before) (popped before).value in
     let few = few_records k in
     insertion a (look c.charge.new.self.table) (look c.set_entry.new.self) (look c.set_body.new.self) (look c.set_place.new.self)
-    c.args.directory c.args.place c.pop-index.result (a c.args.directory).payer (a c.args.directory).depth c.payer_of-payer.result c.args.taken (body_of c.args.body)
-    c.requires.directory c.requires.within c.requires.vacant (top_unused k c.pop-index.result (some before) (popped before).value) (omega arith) c.requires.live
+    c.args.directory c.args.place.value c.pop-index.result (a c.args.directory).payer (a c.args.directory).depth c.payer_of-payer.result c.args.taken (body_of c.args.body)
+    c.requires.directory c.args.place.small c.requires.vacant (top_unused k c.pop-index.result (some before) (popped before).value) (omega arith) c.requires.live
     refl refl (c.payer_of-payer.ensures ∙ ap (cond (celled (body_of c.args.body)) c.pop-index.result) c.payer-above.ensures)
     c.charge.ensures.after c.set_entry.ensures.after c.set_body.ensures.after
-    (c.set_place.ensures.after ∙ ap (λ (x : ℕ). change_at (look c.set_body.new.self) c.pop-index.result (λ n. with_place n c.args.directory c.args.place (x + 1) c.payer_of-payer.result)) c.depth-depth.ensures)
+    (c.set_place.ensures.after
+    ∙ ap (λ (x : ℕ). change_at (look c.set_body.new.self) c.pop-index.result (λ n. with_place n c.args.directory c.args.place.value (x + 1) c.payer_of-payer.result)) c.depth-depth.ensures)
 
 kept : (c : After-set_place) → IsKept c.set_place.new.self c.pop-index.new.self c.charge.new.self.spare
 kept c =
@@ -99,7 +100,7 @@ kept c =
     kept_over {u = c.pop-index.new.self} {v = c.pop-index.new.self} (ap stack_room c.charge.ensures.spare) refl
     (spares_over c.charge.ensures.spare
     (kept_left _ _ _ was.items
-    (insertion_kept c.args.self.now.kept c.args.directory c.args.place c.pop-index.result c.args.taken (body_of c.args.body) (written c)
+    (insertion_kept c.args.self.now.kept c.args.directory c.args.place.value c.pop-index.result c.args.taken (body_of c.args.body) (written c)
     _ _ refl was.height was.value c.requires.fit c.requires.cost c.requires.paid)))
 
 pub invariant_of-storage : goal.invariant_of-storage
@@ -115,7 +116,7 @@ returns c =
     let s = formed c.args.self.now.kept in
     let i = written (goal.at.returns c).After-set_place in
     record {
-      tree = (insertion_done _ _ s c.args.directory c.args.place c.pop-index.result c.args.taken (body_of c.args.body) i 0 c.requires.fit c.requires.cost c.requires.paid).tree;
-      stays = insertion_stays _ _ s c.args.directory c.args.place c.pop-index.result c.args.taken (body_of c.args.body) i;
+      tree = (insertion_done _ _ s c.args.directory c.args.place.value c.pop-index.result c.args.taken (body_of c.args.body) i 0 c.requires.fit c.requires.cost c.requires.paid).tree;
+      stays = insertion_stays _ _ s c.args.directory c.args.place.value c.pop-index.result c.args.taken (body_of c.args.body) i;
       records = ap stack_room c.charge.ensures.spare;
     }

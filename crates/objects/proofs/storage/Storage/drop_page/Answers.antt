@@ -11,9 +11,9 @@ use Rattle.objects.proofs.storage.Storage.drop_page.Goals as goal
 pub push-requires : goal.push-requires
 push-requires c =
     let s = c.args.self.now in
-    let low = c.requires.index in
+    let low = c.requires in
     let few = s.table.few in
-    ∥∥₁_elim s.served le_prop (served_room (stack_room s.spare) (stack_item s.spare) (stack_height s.spare) (look s.table) c.args.index c.args.page c.in-Some.number (omega arith) c.requires.page (sym c.page.ensures ∙ c.in-Some.is))
+    ∥∥₁_elim s.served le_prop (served_room (stack_room s.spare) (stack_item s.spare) (stack_height s.spare) (look s.table) c.args.index c.args.page.value c.in-Some.number (omega arith) c.args.page.small (sym c.page.ensures ∙ c.in-Some.is))
 
 pub invariant_of-self : goal.invariant_of-self
 invariant_of-self c =
@@ -21,7 +21,7 @@ invariant_of-self c =
     let a = look s.table in
     let b = look c.set_page.new.self in
     let after = c.set_page.ensures.after in
-    let low = c.requires.index in
+    let low = c.requires in
     let few = s.table.few in
     let room = c.push.ensures.room in
     let size = c.set_page.ensures.size in
@@ -31,10 +31,10 @@ invariant_of-self c =
     record {
       sized = omega arith;
       roomy = omega arith;
-      short = short_page a b c.args.index c.args.page None c.requires.page after s.short;
-      stocked = stocked_page a b c.args.index c.args.page None after room s.stocked;
+      short = short_page a b c.args.index c.args.page.value None c.args.page.small after s.short;
+      stocked = stocked_page a b c.args.index c.args.page.value None after room s.stocked;
       served =
           served_as room c.push.ensures.items height
-          (∥∥₁_map s.served (page_dropped a b (stack_room s.spare) (stack_item s.spare) (stack_height s.spare) c.args.index c.args.page None
-          (omega arith) c.requires.page after c.in-Some.number (sym c.page.ensures ∙ c.in-Some.is) refl));
+          (∥∥₁_map s.served (page_dropped a b (stack_room s.spare) (stack_item s.spare) (stack_height s.spare) c.args.index c.args.page.value None
+          (omega arith) c.args.page.small after c.in-Some.number (sym c.page.ensures ∙ c.in-Some.is) refl));
     }

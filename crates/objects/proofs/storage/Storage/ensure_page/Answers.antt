@@ -29,7 +29,7 @@ invariant_of-self c =
     let a = look s.table in
     let b = look c.set_page.new.self in
     let i = c.args.index in
-    let k = c.args.page in
+    let k = c.args.page.value in
     let before = (goal.at.invariant_of-self c).After-pop-number in
     let after = c.set_page.ensures.after in
     let low = c.requires.index in
@@ -41,17 +41,17 @@ invariant_of-self c =
     record {
       sized = omega arith;
       roomy = omega arith;
-      short = short_page a b i k (Some c.pop-number.result) c.requires.page after s.short;
+      short = short_page a b i k (Some c.pop-number.result) c.args.page.small after s.short;
       stocked = stocked_page a b i k (Some c.pop-number.result) after room s.stocked;
       served =
           served_as room refl refl
           (served_left _ _ _ c.pop-number.ensures.items
           (∥∥₁_map (was before) (page_taken a b (stack_room s.spare) (stack_item s.spare) (stack_height c.pop-number.new.self) i k (Some c.pop-number.result)
-          (omega arith) c.requires.page after (sym c.page.ensures ∙ c.in-None.is) (ap Some (top before)))));
+          (omega arith) c.args.page.small after (sym c.page.ensures ∙ c.in-None.is) (ap Some (top before)))));
     }
 
 pub returns-in-Some-clause-low : goal.returns-in-Some-clause-low
-returns-in-Some-clause-low c = ∥∥₁_elim c.args.self.now.served le_prop (λ s. s.used c.args.index c.args.page c.in-Some.number (sym c.page.ensures ∙ c.in-Some.is))
+returns-in-Some-clause-low c = ∥∥₁_elim c.args.self.now.served le_prop (λ s. s.used c.args.index c.args.page.value c.in-Some.number (sym c.page.ensures ∙ c.in-Some.is))
 
 pub returns-in-None-clause-low : goal.returns-in-None-clause-low
 returns-in-None-clause-low c =

@@ -14,7 +14,7 @@ pub returns-then-touches-clause-changed : goal.returns-then-touches-clause-chang
 returns-then-touches-clause-changed g c =
     let e = c.ensure_page.ensures.changed in
     record {
-      after = slot_pages (look c.args.self.now.table) (look c.ensure_page.new.self.table) c.args.index c.args.page (Some (number_of c.ensure_page.result)) e.after;
+      after = slot_pages (look c.args.self.now.table) (look c.ensure_page.new.self.table) c.args.index c.args.page.value (Some (number_of c.ensure_page.result)) e.after;
       unused = e.unused;
       room = e.room;
     }
@@ -26,7 +26,7 @@ returns-then-touches-clause-own g c =
     let e = c.ensure_page.ensures in
     let a = look c.args.self.now.table in
     let i = c.args.index in
-    let k = c.args.page in
+    let k = c.args.page.value in
     let first = c.args.extent.first in
     let ds = c.args.extent.words.now in
     let v = told (g.V.Volume.words c.args.volume.now) in
@@ -39,5 +39,5 @@ returns-then-touches-clause-others g c =
     let s = c.ensure_page.new.self in
     let page = c.ensure_page.result in
     let e = c.ensure_page.ensures in
-    one_others (look c.args.self.now.table) (look s.table) c.args.index c.args.page (number_of page) c.args.extent.first c.args.extent.words.now (is_fresh page)
+    one_others (look c.args.self.now.table) (look s.table) c.args.index c.args.page.value (number_of page) c.args.extent.first c.args.extent.words.now (is_fresh page)
     (told (g.V.Volume.words c.args.volume.now)) (told (g.V.Volume.words c.write.new.volume)) e.changed.after (served_alone s.served) e.was c.write.ensures.words

@@ -1,5 +1,5 @@
 -- What is left to show of `write_words`.
-use Rattle.std.proofs.Common.{ℕ, ◌*◌, ◌≤◌, length, sym, refl, ◌∙◌, subst, arith}
+use Rattle.std.proofs.Common.{ℕ, ◌*◌, ◌≤◌, length, sym, refl, ap, ◌∙◌, subst, arith}
 use Rattle.rules.specs.Indexed.{sum}
 use Rattle.forest.specs.Forest.{pages_of}
 use Rattle.forest.proofs.OnePage.{pages_again, upto_step, upto_none}
@@ -42,9 +42,9 @@ write_one-requires g c =
     let height = inv.height in
     let part = sum_before 16 (lacks first (length ds) (a i).page) k (omega arith) in
     let same = still_lacks (told (g.V.Volume.words c.args.volume.now)) (told (g.V.Volume.words c.loop-page.volume)) (a i).page (b i).page first ds k inv.own in
+    let is = ap (lacks first (length ds) (b i).page) c.new.ensures in
     record {
       index = omega arith;
-      page = omega arith;
       volume = omega arith;
       enough = omega arith;
     }
@@ -52,7 +52,7 @@ write_one-requires g c =
 pub loop-page-preserved : goal.loop-page-preserved
 loop-page-preserved g c =
     let inv = c.loop-page.invariant in
-    let e = c.write_one.ensures in
+    let e = rw c.new.ensures at c.write_one.ensures in
     let k = c.loop-page.page in
     let a = look c.args.self.now.table in
     let b = look c.loop-page.self.table in

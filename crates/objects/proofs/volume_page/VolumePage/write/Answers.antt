@@ -19,14 +19,16 @@ loop-word-preserved g c =
     let first = c.args.extent.first in
     let q = c.loop-word.word in
     let ds = c.args.extent.words.now in
-    let low = c.requires.inside in
+    let low = c.requires in
     let same = c.loop-word.invariant.0 in
     let there : inside ws p q ≡ true = and_from _ _ (lt-ltb p (pages_in ws) (omega arith)) (lt-ltb q 16 (omega arith)) in
-    let old = c.loop-word.invariant.1 (p * 16 + q) ∙ page_past w p fresh c.args.page first ds q q (omega arith) in
-    let value = c.new_word-value.ensures ∙ ap (λ (z : ℕ). word_over first ds (16 * c.args.page + q) (cond fresh 0 z)) old in
+    let old = c.loop-word.invariant.1 (p * 16 + q) ∙ page_past w p fresh c.args.page.value first ds q q (omega arith) in
+    let value =
+    c.new_word-value.ensures
+    ∙ ap (λ (z : ℕ). word_over first ds (16 * c.args.page.value + q) (cond fresh 0 z)) old in
     let set = c.write.ensures.words ∙ ap (λ (u : ℕ). written ws u q c.new_word-value.result) c.number-number.ensures ∙ sym (inside_written ws p q c.new_word-value.result there) in
     let items = items_set ws (p * 16 + q) c.new_word-value.result 0 (index_inside ws p q there) in (
       c.write.ensures.pages ∙ same,
       λ x. ap (λ (l : List ℕ). told l x) set ∙ ap (λ (f : ℕ → ℕ). f x) items ∙ ap₂ (cond (eqb x (p * 16 + q))) value (c.loop-word.invariant.1 x)
-          ∙ page_next w p fresh c.args.page first ds q x,
+          ∙ page_next w p fresh c.args.page.value first ds q x,
     )

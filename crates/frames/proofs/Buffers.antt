@@ -1,9 +1,17 @@
 -- Words put into a buffer: all at once, or one after the other. Assumes nothing.
 use Rattle.std.proofs.lemmas.Grind.{common_steps}
 use Rattle.std.proofs.lemmas.Bool.Decides.{nat_tests}
-use Rattle.std.proofs.Common.{◌≡◌, ℕ, suc, ◌+◌, ◌≤◌, List, [], ◌∷◌, ◌++◌, length, take, drop, set, sym, ap, ◌∙◌, ap₂, arith}
+use Rattle.std.proofs.Common.{◌≡◌, ℕ, suc, ◌+◌, ◌-◌, ◌≤◌, List, [], ◌∷◌, ◌++◌, length, take, drop, set, sym, ap, ◌∙◌, ap₂, arith}
+use borrow.Rule.Slice.PartMut.{put_mid}
 use Rattle.std.proofs.lemmas.List.{append_assoc, drop-drop, length-append, drop_at, take_at}
 use Rattle.frames.specs.Encode.{put}
+
+-- a copy into a part of the buffer
+pub put_part : (a : ℕ) (ws ys buffer : List ℕ) → ys ≡ ws → put_mid a (a + length ws - a) buffer ys ≡ put a ws buffer
+put_part a ws ys buffer e =
+    let n : a + length ws - a ≡ length ws = omega arith in
+    ap₂ (λ (k : ℕ) (zs : List ℕ). put_mid a k buffer zs) n e
+    ∙ ap (λ (zs : List ℕ). take a buffer ++ (ws ++ zs)) (drop-drop (length ws) a buffer)
 
 -- no word
 pub put_none : (a : ℕ) (buffer : List ℕ) → put a [] buffer ≡ buffer

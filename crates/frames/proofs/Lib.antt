@@ -1,3 +1,4 @@
+pub mod Shifts
 mod Words
 mod Outcomes
 mod Numbers

@@ -1,3 +1,4 @@
+pub mod Options
 pub mod Digits
 pub mod Words
 pub mod Texts

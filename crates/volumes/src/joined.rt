@@ -14,6 +14,7 @@ pub struct Joined<A, B> {
 }
 
 /// Which of two joined volumes has a page, and which of its pages that is.
+#[derive(Clone, Copy)]
 enum Half {
     First(usize),
     Second(usize),

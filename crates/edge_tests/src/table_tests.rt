@@ -2,7 +2,7 @@
 use labels::Label;
 use objects::Objects;
 use std::test::Fail;
-use tables::{Body, Known, KnownTable, Links, Nibble, Stack, Table, TooLarge};
+use tables::{Body, Known, KnownTable, Links, Nibble, Stack, Table};
 
 #[test]
 fn counts_down(rt: HostRuntime) -> Result<(), Fail> {
@@ -47,12 +47,5 @@ fn makes_stores_of_any_size(rt: HostRuntime) -> Result<(), Fail> {
     };
     let _none = Objects::new(rt.alloc(), root, 0)?;
     let _most = Objects::new(rt.alloc(), root, 256)?;
-    Ok(())
-}
-
-#[test]
-fn refuses_sixteen(rt: HostRuntime) -> Result<(), Fail> {
-    assert_eq!(rt; Nibble::try_from(15), Ok(Nibble::new(15)));
-    assert_eq!(rt; Nibble::try_from(16), Err(TooLarge));
     Ok(())
 }

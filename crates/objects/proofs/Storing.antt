@@ -1,16 +1,14 @@
 -- What storage keeps while one page of an object changes, and facts carried over to equal stacks.
-use Rattle.std.proofs.Common.{◌≡◌, ℕ, suc, ◌<◌, ◌≤◌, None, Option, sym, refl, ap, ◌∙◌, subst, arith}
+use Rattle.std.proofs.Common.{◌≡◌, ℕ, suc, ◌<◌, Option, sym, refl, ap, ◌∙◌, subst, arith}
 use mathlib.Core.Logic.{∥∥₁_map}
-use native.Mathlib.Decide.{ℕ_discrete}
 use Rattle.rules.specs.Indexed.{assign}
-use Rattle.rules.proofs.Assign.{assign_cases, assign_same, assign_other}
-use Rattle.forest.specs.Nodes.{Node, Nodes, with_entry, with_page, cleared, is_live, IsLive}
+use Rattle.rules.proofs.Assign.{assign_cases}
+use Rattle.forest.specs.Nodes.{Node, Nodes, with_entry, with_page, is_live, IsLive}
 use Rattle.forest.specs.Spares.{Stocked, Served}
 use Rattle.forest.specs.Steps.{Kept}
 use Rattle.forest.proofs.Cutting.{paged_live}
 use Rattle.forest.proofs.Stock.{stocked_kept}
-use Rattle.forest.proofs.Keeping.{formed}
-use Rattle.forest.proofs.Serving.{pages_short, served_kept}
+use Rattle.forest.proofs.Serving.{served_kept}
 use Rattle.tables.specs.declared.stack.Stack.{Stack}
 use Rattle.tables.specs.declared.table.Table.{Table}
 use Rattle.tables.specs.Objects.{look, table_size}
@@ -18,22 +16,6 @@ use Rattle.tables.specs.Stacks.{stack_item, stack_height, stack_room}
 use Rattle.tables.proofs.Within.{live_within}
 use Rattle.objects.specs.declared.storage.Storage.{Storage}
 use Rattle.objects.specs.Storing.{IsStocked, IsServed, IsKept}
-
--- no object has a page past the sixteenth
-abbrev pub Short : Nodes → Type 0
-Short a = (i k : ℕ) → 16 ≤ k → (a i).page k ≡ None
-
-pub short_page : (a b : Nodes) (i k : ℕ) (o : Option ℕ) → k < 16 → b ≡ assign a i (with_page (a i) k o) → Short a → Short b
-short_page a b i k o low is short x m past = ap (λ (f : Nodes). (f x).page m) is ∙ go (ℕ_discrete x i)
-  where
-    go : Dec (x ≡ i) → (assign a i (with_page (a i) k o) x).page m ≡ None
-    go (yes q) =
-        ap (λ (z : ℕ). (assign a i (with_page (a i) k o) z).page m) q ∙ ap (λ (n : Node). n.page m) (assign_same a i _)
-        ∙ assign_other (a i).page k m o (λ (e : m ≡ k). omega arith) ∙ short i m past
-    go (no q) = ap (λ (n : Node). n.page m) (assign_other a i x _ q) ∙ short x m past
-
-pub short_cleared : (a b : Nodes) (i : ℕ) → b ≡ assign a i (cleared (a i)) → Short a → Short b
-short_cleared a b i is short x m past = ap (λ (f : Nodes). (f x).page m) is ∙ assign_cases (λ (n : Node). n.page m ≡ None) a i (cleared (a i)) x (λ _. refl) (short x m past)
 
 pub stocked_as : {n m : ℕ} {f g : ℕ → ℕ} {h l : ℕ} {a : Nodes} → n ≡ m → f ≡ g → h ≡ l → ∥ Stocked m g l a ∥₁ → ∥ Stocked n f h a ∥₁
 stocked_as {a = a} e d p s = subst (λ (k : ℕ × ((ℕ → ℕ) × ℕ)). ∥ Stocked k.0 k.1.0 k.1.1 a ∥₁) (sym (λ i. (e i, (d i, p i)))) s
@@ -63,14 +45,12 @@ pub stored : (t : Table) (u s : Stack) → table_size t ≡ suc (stack_room s) �
     → IsKept t u s → record {
       sized : table_size t ≡ suc (stack_room s);
       roomy : stack_room u ≡ suc (stack_room s);
-      short : Short (look t);
       stocked : IsStocked t u s;
       served : IsServed t s;
     }
 stored t u s size room k = record {
   sized = size;
   roomy = room;
-  short = pages_short (look t) (formed k);
   stocked = ∥∥₁_map k (λ z. z.stocked);
   served = ∥∥₁_map k (λ z. z.served);
 }
@@ -80,14 +60,12 @@ pub stored_same : (s : Storage) (t : Table) → table_size t ≡ table_size s.ta
     → record {
       sized : table_size t ≡ suc (stack_room s.spare);
       roomy : stack_room s.unused ≡ suc (stack_room s.spare);
-      short : Short (look t);
       stocked : IsStocked t s.unused s.spare;
       served : IsServed t s.spare;
     }
 stored_same s t size pages lives = record {
   sized = size ∙ s.sized;
   roomy = s.roomy;
-  short = λ x k h. ap (λ (ps : ℕ → Option ℕ). ps k) (pages x) ∙ s.short x k h;
   stocked = ∥∥₁_map s.stocked (stocked_kept _ _ _ (look s.table) (look t) lives);
   served = ∥∥₁_map s.served (served_kept _ _ _ (look s.table) (look t) pages);
 }

@@ -11,7 +11,6 @@ mod read;
 mod storage;
 mod truncate;
 mod volume_page;
-mod words;
 mod write;
 
 pub use objects::Objects;

@@ -3,7 +3,7 @@ ghost use Rattle.objects.specs.Storing.{IsKept};
 
 use crate::storage::Storage;
 
-/// The objects of a store: what is kept of them is a tree whose cells account for every record.
+/// The objects of a store. They are a tree whose cells account for every record.
 #[derive(Drop)]
 pub struct Objects {
     pub(crate) storage: Storage,

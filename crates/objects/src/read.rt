@@ -19,11 +19,8 @@ impl Objects {
         requires volume { records self.now ≤ pages_in (V.Volume.words volume.now) }
         ensures { result ≡ segment_word (pages_of (told (V.Volume.words volume.now)) (nodes self.now segment).page) index }
     {
-        match self
-            .storage
-            .table
-            .page(segment, Nibble::new(index / PAGE_WORDS))
-        {
+        let number = Nibble::new(index / PAGE_WORDS);
+        match self.storage.table.page(segment, number) {
             Some(page) => volume.read(page, index % PAGE_WORDS).unwrap_or(0),
             None => 0,
         }

@@ -1,6 +1,6 @@
 //! Where a store keeps its objects.
-ghost use Rattle.std.specs.Prelude.{◌≡◌, ℕ, suc, ◌≤◌, None};
-ghost use Rattle.tables.specs.Objects.{look, table_size};
+ghost use Rattle.std.specs.Prelude.{◌≡◌, suc};
+ghost use Rattle.tables.specs.Objects.{table_size};
 ghost use Rattle.tables.specs.Stacks.{stack_room};
 ghost use Rattle.objects.specs.Storing.{IsStocked, IsServed};
 
@@ -13,8 +13,8 @@ mod writing;
 
 pub use release::Marks;
 
-/// Objects in a table, and stacks of those and of the pages of the volume that are not in use. No segment has more than
-/// sixteen pages, and each present page has a page of the volume to itself.
+/// Objects in a table, and stacks of those and of the pages of the volume that are not in use. Each present page has a
+/// page of the volume to itself.
 #[derive(Drop)]
 pub(crate) struct Storage {
     pub(crate) table: Table,
@@ -22,7 +22,6 @@ pub(crate) struct Storage {
     pub(crate) spare: Stack,
     ghost sized: { table_size table ≡ suc (stack_room spare) },
     ghost roomy: { stack_room unused ≡ suc (stack_room spare) },
-    ghost short: { (i k : ℕ) → 16 ≤ k → (look table i).page k ≡ None },
     ghost stocked: { IsStocked table unused spare },
     ghost served: { IsServed table spare },
 }

@@ -3,3 +3,4 @@ mod Looking
 pub mod Counts
 pub mod Within
 mod Made
+pub mod LatePages

@@ -1,4 +1,3 @@
-pub mod Nibbles
 pub mod Cells
 pub mod Bodies
 pub mod Sixteens

@@ -10,7 +10,7 @@ use crate::sixteen::Sixteen;
 /// A process's sixteen known numbers.
 pub type KnownTable = Sixteen<Known>;
 
-impl Sixteen<Known> {
+impl KnownTable {
     /// The known numbers of a new process: number 0 means the object 0, and the others are free.
     pub fn new() -> KnownTable
         ensures { known_at result ≡ first_known }

@@ -1,4 +1,4 @@
-//! The memory of a store as plain tables, each allocated once.
+//! The memory of a store as plain tables, allocated once.
 #![tactic(auto)]
 
 mod body;
@@ -17,7 +17,7 @@ pub use cell::Cell;
 pub use known::Known;
 pub use known_table::KnownTable;
 pub use links::Links;
-pub use nibble::{Nibble, TooLarge};
+pub use nibble::Nibble;
 pub use sixteen::Sixteen;
 pub use stack::Stack;
 pub use table::Table;

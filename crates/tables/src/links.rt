@@ -9,7 +9,7 @@ use crate::sixteen::Sixteen;
 /// Sixteen numbers, each there or not: the objects at a directory's places, or the volume pages of a segment's pages.
 pub type Links = Sixteen<Option<usize>>;
 
-impl Sixteen<Option<usize>> {
+impl Links {
     /// Sixteen numbers, none of them there.
     pub fn new() -> Links
         ensures { link result ≡ no_links }

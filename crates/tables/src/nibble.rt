@@ -1,7 +1,5 @@
 //! Numbers below 16.
-ghost use Rattle.std.specs.Prelude.{◌<◌};
-
-mod methods;
+ghost use Rattle.std.specs.Prelude.{◌≡◌, ◌<◌};
 
 /// A number below 16: of a place in a directory, of a page of a segment, or a known number of a process.
 #[derive(Clone, Copy, PartialEq, Eq, Debug)]
@@ -10,6 +8,12 @@ pub struct Nibble {
     ghost small: { value < 16 },
 }
 
-/// What a number of 16 or more is refused with.
-#[derive(Clone, Copy, PartialEq, Eq, Debug)]
-pub struct TooLarge;
+impl Nibble {
+    /// The number, which is below 16.
+    pub fn new(value: usize) -> Nibble
+        requires { value < 16 }
+        ensures { result.value ≡ value }
+    {
+        Nibble { value }
+    }
+}

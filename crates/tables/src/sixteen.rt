@@ -6,8 +6,8 @@ use arrayvec::ArrayVec;
 
 mod methods;
 
-/// Sixteen values, numbered from 0 on. They lie in an `ArrayVec`, since no contract can say of a plain array what it
-/// is once one of its elements was lent.
+/// Sixteen values, numbered from 0 on. They lie in an `ArrayVec`, since the check proves no lent element of an array
+/// whose items are of a type parameter.
 #[derive(Drop)]
 pub struct Sixteen<T> {
     pub(crate) at: ArrayVec<T, 16>,

@@ -1,5 +1,5 @@
 //! Pages of segments, and the pages of the volume that serve them.
-ghost use Rattle.std.specs.Prelude.{◌≡◌, ℕ, ◌+◌, ◌-◌, ◌<◌, ◌≤◌, if◌then◌else◌, Some, None, nat_lt};
+ghost use Rattle.std.specs.Prelude.{◌≡◌, ℕ, ◌+◌, ◌-◌, ◌<◌, ◌≤◌, if◌then◌else◌, Some, None, nat_lt, is_some};
 ghost use Rattle.rules.specs.Indexed.{sum};
 ghost use Rattle.forest.specs.Nodes.{with_page, with_pages};
 ghost use Rattle.forest.specs.Forest.{has, cut_links};
@@ -16,6 +16,14 @@ use tables::Nibble;
 pub(crate) const PAGES: usize = 16;
 
 impl Storage {
+    /// Whether a page of an object is present.
+    fn is_present(&self, index: usize, page: Nibble) -> bool
+        requires { index < table_size self.now.table }
+        ensures { result ≡ is_some ((look self.now.table index).page page.value) }
+    {
+        self.table.page(index, page).is_some()
+    }
+
     /// How many pages of an object, numbered `keep` and up, are present.
     pub(crate) fn present_from(&self, index: usize, keep: usize) -> u32
         requires index { index < table_size self.now.table }
@@ -23,10 +31,7 @@ impl Storage {
         ensures value { result ≡ sum 16 (λ k. (if nat_lt k keep then 0 else has ((look self.now.table index).page k))) }
         ensures few { result ≤ 16 }
     {
-        let present = (keep..PAGES).filter(|page| self
-            .table
-            .page(index, Nibble::new(*page))
-            .is_some());
+        let present = (keep..PAGES).filter(|page| self.is_present(index, Nibble::new(*page)));
         present.count() as u32
     }
 

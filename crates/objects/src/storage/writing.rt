@@ -19,7 +19,7 @@ use volumes::Volume;
 
 impl Storage {
     /// Whether a page is absent and has one of the words.
-    fn lacks(&self, index: usize, page: Nibble, extent: Extent<'_>) -> bool
+    fn is_missing(&self, index: usize, page: Nibble, extent: Extent<'_>) -> bool
         requires { index < table_size self.now.table }
         ensures { result ≡ (touched extent.entry.first (length extent.entry.words.now) page.value && is_none ((look self.now.table index).page page.value)) }
     {
@@ -32,7 +32,7 @@ impl Storage {
         ensures value { result ≡ sum 16 (lacks extent.entry.first (length extent.entry.words.now) (look self.now.table index).page) }
         ensures few { result ≤ 16 }
     {
-        let missing = (0..PAGES).filter(|page| self.lacks(index, Nibble::new(*page), extent));
+        let missing = (0..PAGES).filter(|page| self.is_missing(index, Nibble::new(*page), extent));
         missing.count() as u32
     }
 

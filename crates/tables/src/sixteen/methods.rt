@@ -40,8 +40,5 @@ fn item_mut<T, const N: usize, A>(items: &mut ArrayVec<T, N, A>, index: usize) -
     requires { index < array_vec_len items.old }
     ensures* { sem 𝓛 (lends_item T.row N.row A.row items.entry index result) }
 {
-    match items.get_mut(index) {
-        Some(item) => item,
-        None => unreachable!(),
-    }
+    items.get_mut(index).unwrap()
 }

@@ -16,7 +16,7 @@ impl Table {
         ensures size { IfOk result (λ t. table_size t ≡ size) }
         ensures nodes { IfOk result (λ t. look t ≡ root_alone (body_of root)) }
     {
-        let mut objects = Vec::new(heap);
+        let mut objects = Vec::with_capacity(heap, size)?;
         objects.resize_with(size, || Object::new(Body::Unused))?;
         let mut table = Table { objects };
         table.set_body(0, root);

@@ -5,7 +5,7 @@ use native.Mathlib.Bridge.{le_prop}
 use Rattle.forest.proofs.Serving.{page_dropped, served_room}
 use Rattle.tables.specs.Objects.{look}
 use Rattle.tables.specs.Stacks.{stack_item, stack_height, stack_room}
-use Rattle.objects.proofs.Storing.{short_page, stocked_page, served_as}
+use Rattle.objects.proofs.Storing.{stocked_page, served_as}
 use Rattle.objects.proofs.storage.Storage.drop_page.Goals as goal
 
 pub push-requires : goal.push-requires
@@ -31,7 +31,6 @@ invariant_of-self c =
     record {
       sized = omega arith;
       roomy = omega arith;
-      short = short_page a b c.args.index c.args.page.value None c.args.page.small after s.short;
       stocked = stocked_page a b c.args.index c.args.page.value None after room s.stocked;
       served =
           served_as room c.push.ensures.items height

@@ -7,7 +7,7 @@ use Rattle.forest.proofs.Serving.{page_taken}
 use Rattle.tables.specs.Objects.{look}
 use Rattle.tables.specs.Stacks.{stack_item, stack_height, stack_room}
 use Rattle.objects.proofs.Popped.{served_left}
-use Rattle.objects.proofs.Storing.{short_page, stocked_page, served_as}
+use Rattle.objects.proofs.Storing.{stocked_page, served_as}
 use Rattle.objects.proofs.storage.Storage.ensure_page.Goals.{After-pop-number}
 use Rattle.objects.proofs.storage.Storage.ensure_page.Goals as goal
 
@@ -41,7 +41,6 @@ invariant_of-self c =
     record {
       sized = omega arith;
       roomy = omega arith;
-      short = short_page a b i k (Some c.pop-number.result) c.args.page.small after s.short;
       stocked = stocked_page a b i k (Some c.pop-number.result) after room s.stocked;
       served =
           served_as room refl refl

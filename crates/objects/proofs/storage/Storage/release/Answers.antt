@@ -12,7 +12,7 @@ use Rattle.forest.proofs.Stock.{alive, stocked_room, stock_returned}
 use Rattle.tables.specs.Objects.{look}
 use Rattle.tables.specs.Stacks.{stack_item, stack_height, stack_room}
 use Rattle.tables.proofs.Within.{live_within}
-use Rattle.objects.proofs.Storing.{stocked_as, short_cleared}
+use Rattle.objects.proofs.Storing.{stocked_as}
 use Rattle.objects.proofs.storage.Storage.release.Goals.{After-drop_pages, After-clear}
 use Rattle.objects.proofs.storage.Storage.release.Goals as goal
 
@@ -60,7 +60,6 @@ invariant_of-self c =
     record {
       sized = omega arith;
       roomy = omega arith;
-      short = short_cleared a b i after s.short;
       stocked =
           stocked_as refl c.push.ensures.items height
           (∥∥₁_map s.stocked (stock_returned a b (stack_room s.spare) (stack_item s.unused) (stack_height s.unused) i (omega arith)

@@ -5,7 +5,7 @@ use Rattle.tables.specs.declared.known.Known.{Known}
 use Rattle.tables.specs.declared.known.Known.TheVariants.{Free, Means}
 use Rattle.tables.specs.Sixteens.{value_at}
 use Rattle.tables.proofs.Items.{value_changed}
-use Rattle.tables.proofs.known_table.Sixteen+Known.new.Goals as goal
+use Rattle.tables.proofs.known_table.KnownTable.new.Goals as goal
 
 pub returns : goal.returns
 returns c =

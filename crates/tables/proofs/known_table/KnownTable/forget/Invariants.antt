@@ -1,7 +1,7 @@
 -- The numbers before `known` are forgotten where they mean a marked object, and the others are as they were.
 use Rattle.std.proofs.Common.{◌≡◌, ◌++◌, map, take, drop}
 use Rattle.tables.specs.Forgotten.{forgotten}
-use Rattle.tables.proofs.known_table.Sixteen+Known.forget.Given as goal
+use Rattle.tables.proofs.known_table.KnownTable.forget.Given as goal
 
 abbrev pub invariant-loop-known : goal.invariant-loop-known
 invariant-loop-known l =

@@ -4,7 +4,7 @@ use Rattle.std.proofs.lemmas.List.{get_or_default}
 use Rattle.std.proofs.lemmas.List.Edits.{map_over_more}
 use Rattle.tables.specs.Forgotten.{forgotten}
 use Rattle.tables.specs.declared.known.Known.TheVariants.{Free}
-use Rattle.tables.proofs.known_table.Sixteen+Known.forget.Goals as goal
+use Rattle.tables.proofs.known_table.KnownTable.forget.Goals as goal
 
 pub loop-known-preserved : goal.loop-known-preserved
 loop-known-preserved c =

@@ -3,7 +3,7 @@ use Rattle.std.proofs.Common.{◌≡◌, ℕ, count_by, is_some, get_or, None, a
 use Rattle.rules.specs.Indexed.{sum}
 use Rattle.forest.specs.Forest.{has}
 use Rattle.tables.proofs.Counts.{count_there}
-use Rattle.tables.proofs.links.Sixteen+Option+usize.count.Goals as goal
+use Rattle.tables.proofs.links.Links.count.Goals as goal
 
 pub returns : goal.returns
 returns c =

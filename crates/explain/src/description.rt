@@ -102,13 +102,13 @@ impl fmt::Display for Denied {
         let FrameFault { reason, place } = self.0;
         let number = reason.number();
         let layer = self.0.layer();
-        let reason = match reason {
+        let meaning = match reason {
             Flaw::NotAdmitted => "the process is not admitted",
             Flaw::NotACall => "no head of a call",
             Flaw::WrongCount => "wrong count of words",
             Flaw::WrongKind => "argument of a wrong kind",
             Flaw::OutOfRange => "value out of range",
         };
-        write!(f, "denied {number}, layer {layer}, place {place}: {reason}")
+        write!(f, "denied {number}, layer {layer}, place {place}: {meaning}")
     }
 }

@@ -17,8 +17,11 @@ flaw_number WrongKind = 4
 flaw_number OutOfRange = 5
 
 -- all of them are of layer 1, the frame
+abbrev pub flaw_layer : ℕ
+flaw_layer = 1
+
 abbrev pub frame_layer : FrameFault → ℕ
-frame_layer f = 1
+frame_layer f = flaw_layer
 
 -- a flaw, and the index of the word to blame
 abbrev pub blame : Flaw → ℕ → FrameFault

@@ -1,6 +1,17 @@
 -- Where a reader stands in its frame. Assumes nothing.
 use Rattle.std.specs.Prelude.{◌≡◌, ℕ, ◌+◌, ◌≤◌, List, length, drop, slice_index}
+use Rattle.frames.specs.declared.fault.Flaw.TheVariants.{WrongKind}
+use Rattle.frames.specs.declared.reader.Argument.{Argument}
 use Rattle.frames.specs.declared.reader.Reader.{Reader}
+use Rattle.frames.specs.Words.{kind_of, value_of}
+use Rattle.frames.specs.Operations.{numbered}
+use Rattle.frames.specs.Table.{kind_code}
+use Rattle.frames.specs.Decode.{map_ok}
+
+-- what a word holds as an argument: its kind, if there is such a kind, and its value
+pub record Holding (w : ℕ) (a : Argument) : Type 0 where
+  pub kind : map_ok kind_code a.kind ≡ numbered 6 WrongKind (kind_of w)
+  pub value : a.value ≡ value_of w
 
 -- the word to read next
 abbrev pub next : Reader → ℕ

@@ -18,7 +18,7 @@ use crate::word;
 const SEGMENT_WORDS: usize = 256;
 
 /// The call that a frame's head names, where as many words follow as the head says and the call takes.
-fn operation(frame: &[u32]) -> Result<Operation, FrameFault>
+fn named_operation(frame: &[u32]) -> Result<Operation, FrameFault>
     ensures { map_ok operation_number result ≡ call_in frame.now }
 {
     let [head, words @ ..] = frame else {
@@ -94,7 +94,7 @@ fn assemble<'a>(operation: Operation, values: [u32; MOST_ARGUMENTS], words: &'a 
 fn read_call<'a>(frame: &'a [u32]) -> Result<Call<'a>, FrameFault>
     ensures { map_ok request result ≡ spelled frame.now }
 {
-    let operation = operation(frame)?;
+    let operation = named_operation(frame)?;
     let mut reader = Reader::behind_head(frame);
     let values = reader.arguments(operation.signature().parameters)?;
     Ok(assemble(operation, values, reader.rest()))

@@ -125,11 +125,18 @@ impl<'a> Parts<'a> {
         }
     }
 
+    /// What the call takes as arguments.
+    fn parameters(&self) -> &'static [Parameter]
+        ensures { result.now ≡ parameters_of (operation_number self.now.operation) }
+    {
+        self.operation.signature().parameters
+    }
+
     /// How many words the frame has.
     fn frame_length(&self) -> usize
         ensures { result ≡ (1 + arity (operation_number self.now.operation)) + length self.now.words.now }
     {
-        1 + self.operation.signature().parameters.len() + self.words.len()
+        1 + self.parameters().len() + self.words.len()
     }
 
     /// Denies the first value that is out of its range.
@@ -137,7 +144,7 @@ impl<'a> Parts<'a> {
     fn check_values(&self) -> Result<(), FrameFault>
         ensures { result ≡ unless (value_fault 1 (parameters_of (operation_number self.now.operation)) self.now.values) tt }
     {
-        match first_outside(self.operation.signature().parameters, &self.values) {
+        match first_outside(self.parameters(), &self.values) {
             Some(i) => Err(Flaw::OutOfRange.at(1 + i)),
             None => Ok(()),
         }
@@ -148,19 +155,18 @@ impl<'a> Parts<'a> {
         requires { 1 + arity (operation_number self.now.operation) ≤ length buffer.old }
         ensures { buffer.new ≡ put 1 (argument_words (parameters_of (operation_number self.now.operation)) self.now.values) buffer.old }
     {
-        let parameters = self.operation.signature().parameters;
-        for (i, (parameter, value)) in parameters.iter().zip(&self.values).enumerate() {
+        for (i, (parameter, value)) in self.parameters().iter().zip(&self.values).enumerate() {
             buffer[1 + i] = word::word(parameter.kind.code(), *value);
         }
     }
 
     /// Puts head, arguments and data words at the buffer's start.
     fn put_frame(&self, buffer: &mut [u32])
-        requires count { length self.now.words.now ≤ 16 }
+        requires count { arity (operation_number self.now.operation) + length self.now.words.now < 2 ^ 16 }
         requires room { (1 + arity (operation_number self.now.operation)) + length self.now.words.now ≤ length buffer.old }
         ensures { let n = operation_number self.now.operation in buffer.new ≡ put 0 (frame_of n (parameters_of n) self.now.values self.now.words.now) buffer.old }
     {
-        let arguments = self.operation.signature().parameters.len();
+        let arguments = self.parameters().len();
         buffer[0] = word::head(self.operation, (arguments + self.words.len()) as u32);
         self.put_arguments(buffer);
         put_words(self.words, 1 + arguments, buffer);

@@ -1,11 +1,13 @@
 //! Why something is denied, and which word of the frame is to blame.
 ghost use Rattle.std.specs.Prelude.{◌≡◌, ℕ};
-ghost use Rattle.frames.specs.Faults.{flaw_number};
+ghost use Rattle.frames.specs.Faults.{flaw_number, flaw_layer};
 
 /// Why something is denied. All reasons of one type are of one layer.
 pub trait Reason: Copy {
+    /// The number of each reason.
     ghost number_of: { Self → ℕ };
 
+    /// The layer of all reasons of the type.
     ghost LAYER: { ℕ };
 
     /// The layer that denies.
@@ -63,7 +65,7 @@ pub type FrameFault = Fault<Flaw>;
 impl Reason for Flaw {
     ghost number_of = { flaw_number };
 
-    ghost LAYER = { 1 };
+    ghost LAYER = { flaw_layer };
 
     const LAYER: u32 = 1;
 

@@ -1,11 +1,7 @@
 //! Reads a lent frame word by word.
 ghost use Rattle.std.specs.Prelude.{◌≡◌, ◌≤◌, length, OnOk};
-ghost use Rattle.frames.specs.Words.{kind_of, value_of};
-ghost use Rattle.frames.specs.declared.fault.Flaw.TheVariants.{WrongKind};
-ghost use Rattle.frames.specs.Operations.{numbered};
-ghost use Rattle.frames.specs.Table.{kind_code};
-ghost use Rattle.frames.specs.Decode.{map_ok, argument};
-ghost use Rattle.frames.specs.Readers.{next, unread, Holds, Moved};
+ghost use Rattle.frames.specs.Decode.{argument};
+ghost use Rattle.frames.specs.Readers.{Holding, next, unread, Holds, Moved};
 ghost use Rattle.frames.specs.Walks.{Walked};
 
 use crate::fault::{Flaw, FrameFault, Reason};
@@ -20,7 +16,7 @@ pub(crate) struct Argument {
 }
 
 impl From<u32> for Argument {
-    ghost from_gives = { λ w a. (map_ok kind_code a.kind ≡ numbered 6 WrongKind (kind_of w)) × (a.value ≡ value_of w) };
+    ghost from_gives = { Holding };
 
     fn from(word: u32) -> Argument {
         Argument {
@@ -49,8 +45,7 @@ impl<'a> Reader<'a> {
     /// The kind and the value in the next word.
     fn next(&mut self) -> Argument
         requires { Holds self.old 1 }
-        ensures kind { map_ok kind_code result.kind ≡ numbered 6 WrongKind (kind_of (next self.old)) }
-        ensures value { result.value ≡ value_of (next self.old) }
+        ensures argument { Holding (next self.old) result }
         ensures moved { Moved self.old self.new 1 }
     {
         let word = self.frame[self.at];

@@ -15,7 +15,7 @@ pub trait Dominance {
     fn valid(&self, item: Self::Item) -> bool
         ensures { result ≡ (order self.now).valid item };
 
-    /// Whether `a` is below `b`; each valid item is below itself.
+    /// Whether `a` is below `b`, which then dominates it.
     fn below(&self, a: Self::Item, b: Self::Item) -> bool
         ensures { result ≡ (order self.now).below a b };
 
@@ -42,5 +42,5 @@ pub trait Dominance {
     ghost antisymmetric: { (x : Self) → Antisymmetric (order x) };
 
     /// All of these together, for lemmas that take an order.
-    ghost laws: { (x : Self) → Laws (order x) };
+    ghost laws: { (x : Self) → Laws (order x) } = { λ x. record { low = low x; high = high x; reflexive = reflexive x; transitive = transitive x; antisymmetric = antisymmetric x } };
 }

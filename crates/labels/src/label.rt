@@ -35,8 +35,6 @@ impl<S: PartOrder, I: PartOrder> Dominance for LabelOrder<S, I> {
 
     ghost antisymmetric = { Prim.search rules };
 
-    ghost laws = { Prim.search rules };
-
     /// Whether both words of a label are valid.
     fn valid(&self, label: Label) -> bool {
         self.security.valid(label.security) && self.integrity.valid(label.integrity)

@@ -71,8 +71,6 @@ impl Dominance for LevelCategory {
 
     ghost antisymmetric = { Prim.search rules };
 
-    ghost laws = { Prim.search (rules, level_lawful) };
-
     fn valid(&self, word: u32) -> bool {
         word >> (CATEGORY_BITS + LEVEL_BITS) == 0
     }

@@ -5,8 +5,8 @@ ghost use Rattle.std.proofs.Common.{rules};
 use crate::dominance::Dominance;
 use crate::part_order::PartOrder;
 
-/// The part order that it holds, reversed: the same items are valid, and `a` is below `b` where that order has `b`
-/// below `a`.
+/// The order that it holds, reversed: the same items are valid, and `a` is below `b` where that order has `b` below
+/// `a`.
 #[derive(Clone, Copy, PartialEq, Eq, Debug, Drop)]
 pub struct Reversed<P>(pub P);
 
@@ -24,8 +24,6 @@ impl<P: Dominance> Dominance for Reversed<P> {
     ghost transitive = { Prim.search rules };
 
     ghost antisymmetric = { Prim.search rules };
-
-    ghost laws = { Prim.search rules };
 
     fn valid(&self, item: P::Item) -> bool {
         self.0.valid(item)

@@ -24,8 +24,6 @@ impl Dominance for Single {
 
     ghost antisymmetric = { Prim.search rules };
 
-    ghost laws = { Prim.search rules };
-
     fn valid(&self, word: u32) -> bool {
         word == 0
     }

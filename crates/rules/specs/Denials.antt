@@ -22,8 +22,11 @@ denial_number TooFewLeft = 14
 denial_number ProcessesFull = 15
 
 -- all of them are of layer 2, the store
+abbrev pub denial_layer : ℕ
+denial_layer = 2
+
 abbrev pub store_layer : StoreFault → ℕ
-store_layer f = 2
+store_layer f = denial_layer
 
 -- a denial, and the index of the frame's word to blame
 abbrev pub fault : Denial → ℕ → StoreFault

@@ -1,5 +1,5 @@
 //! Why the store denies a call, a root label or an admission, and which word of the frame is to blame.
-ghost use Rattle.rules.specs.Denials.{denial_number};
+ghost use Rattle.rules.specs.Denials.{denial_number, denial_layer};
 
 use frames::fault::{Fault, Reason};
 
@@ -34,7 +34,7 @@ pub type StoreFault = Fault<Denial>;
 impl Reason for Denial {
     ghost number_of = { denial_number };
 
-    ghost LAYER = { 2 };
+    ghost LAYER = { denial_layer };
 
     const LAYER: u32 = 2;
 

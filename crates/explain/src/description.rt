@@ -109,6 +109,9 @@ impl fmt::Display for Denied {
             Flaw::WrongKind => "argument of a wrong kind",
             Flaw::OutOfRange => "value out of range",
         };
-        write!(f, "denied {number}, layer {layer}, place {place}: {meaning}")
+        write!(
+            f,
+            "denied {number}, layer {layer}, place {place}: {meaning}"
+        )
     }
 }

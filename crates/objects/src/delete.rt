@@ -13,7 +13,7 @@ ghost use Rattle.objects.specs.Views.{nodes, records};
 use crate::objects::Objects;
 use crate::storage::Marks;
 use std::array;
-use tables::{Body, Nibble};
+use tables::Body;
 
 impl Objects {
     /// Whether an object in use is `top` or lies below it, by going up from it.
@@ -84,7 +84,7 @@ impl Objects {
         let back = self.weights(marks);
         let storage = &mut self.storage;
         storage.charge(directory, 0, back);
-        storage.table.set_entry(directory, Nibble::new(place), None);
+        storage.table.set_entry(directory, place, None);
         storage.release_marked(marks);
         back
     }

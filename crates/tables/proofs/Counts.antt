@@ -1,6 +1,7 @@
 -- Counting the numbers that are there.
-use Rattle.std.proofs.Common.{◌≡◌, ℕ, zero, suc, ◌+◌, cond, List, ◌∷◌, length, get_or, true, false, count_by, is_some, Some, None, Option, sym, refl, ap, add-one, ◌∙◌, zero-add, arith}
+use Rattle.std.proofs.Common.{[], ◌≡◌, ℕ, zero, suc, ◌+◌, cond, List, ◌∷◌, length, get_or, true, false, count_by, sum_by, is_some, Some, None, Option, sym, refl, ap, add-one, ◌∙◌, zero-add, arith}
 use Rattle.std.proofs.lemmas.List.Recursion.{is_count_by}
+use Rattle.std.proofs.lemmas.List.Sums.{sum_by-cons}
 use Rattle.rules.specs.Indexed.{sum}
 use Rattle.forest.specs.Forest.{has}
 
@@ -32,3 +33,8 @@ there_more (Some n) xs = sum_first (length xs) (λ k. has (get_or (Some n ∷ xs
 pub count_there : (xs : List (Option ℕ)) → count_by is_some xs ≡ there xs
 unfolding sum
 count_there xs = sym (is_count_by there is_some refl there_more xs)
+
+pub sum_there : (xs : List (Option ℕ)) → sum_by has xs ≡ there xs
+unfolding sum
+sum_there [] = refl
+sum_there (x ∷ xs) = sum_by-cons has x xs ∙ ap (λ n. has x + n) (sum_there xs) ∙ sym (sum_first (length xs) (λ k. has (get_or (x ∷ xs) k None)))

@@ -1,5 +1,8 @@
 pub mod Items
+mod Upto
+mod Countdown
 mod Looking
+mod Pushed
 pub mod Counts
 pub mod Within
 mod Made

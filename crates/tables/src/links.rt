@@ -28,6 +28,9 @@ impl Links {
     pub fn count(&self) -> u32
         ensures { result ≡ sum 16 (λ k. has (link self.now k)) }
     {
-        self.at.iter().filter(|number| number.is_some()).count() as u32
+        self.at
+            .iter()
+            .map(|number| u32::from(number.is_some()))
+            .sum()
     }
 }

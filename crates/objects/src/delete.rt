@@ -12,7 +12,6 @@ ghost use Rattle.objects.specs.Views.{nodes, records};
 
 use crate::objects::Objects;
 use crate::storage::Marks;
-use std::array;
 use tables::Body;
 
 impl Objects {
@@ -43,7 +42,11 @@ impl Objects {
     pub fn subtree(&self, top: usize) -> Marks
         ensures { (k : ℕ) → Tells (nodes self.now) top k (slice_index_or result k false) }
     {
-        array::from_fn(|index| self.is_part(index, top))
+        let mut marks = [false; 257];
+        for index in 0..self.storage.table.len() {
+            marks[index] = self.is_part(index, top);
+        }
+        marks
     }
 
     /// The records that an object stands for: itself, its present pages, and what its cell has left.

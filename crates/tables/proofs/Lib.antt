@@ -3,6 +3,7 @@ mod Upto
 mod Countdown
 mod Looking
 mod Pushed
+pub mod Numbering
 pub mod Counts
 pub mod Within
 mod Made

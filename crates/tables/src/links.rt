@@ -28,9 +28,8 @@ impl Links {
     pub fn count(&self) -> u32
         ensures { result ≡ sum 16 (λ k. has (link self.now k)) }
     {
-        self.at
-            .iter()
-            .map(|number| u32::from(number.is_some()))
+        (0..16)
+            .map(|index| u32::from(self.find(index).is_some()))
             .sum()
     }
 }

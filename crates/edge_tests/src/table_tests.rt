@@ -2,7 +2,7 @@
 use labels::Label;
 use objects::Objects;
 use std::test::Fail;
-use tables::{Body, Known, KnownTable, Links, Nibble, Stack, Table};
+use tables::{Body, Known, KnownTable, Links, Stack, Table};
 
 #[test]
 fn counts_down(rt: HostRuntime) -> Result<(), Fail> {
@@ -16,15 +16,15 @@ fn counts_down(rt: HostRuntime) -> Result<(), Fail> {
 #[test]
 fn makes_known_numbers(rt: HostRuntime) -> Result<(), Fail> {
     let known = KnownTable::new();
-    assert_eq!(rt; known.find(Nibble::new(0)), Known::Means(0));
-    assert_eq!(rt; known.find(Nibble::new(15)), Known::Free);
+    assert_eq!(rt; known.find(0), Known::Means(0));
+    assert_eq!(rt; known.find(15), Known::Free);
     Ok(())
 }
 
 #[test]
 fn makes_links(rt: HostRuntime) -> Result<(), Fail> {
     let links = Links::new();
-    assert_eq!(rt; links.find(Nibble::new(15)), None);
+    assert_eq!(rt; links.find(15), None);
     assert_eq!(rt; links.count(), 0);
     Ok(())
 }

@@ -1,5 +1,5 @@
 -- A loop that clears the marked objects, from the first on.
-use Rattle.std.proofs.Common.{◌≡◌, ℕ, ◌+◌, ◌≤◌, Bool, true, false, cond, ◌&&◌, ltb, sym, refl, ap, ◌∙◌, subst, arith, ltb-false, ltb-true, le-ltb, lt-ltb}
+use Rattle.std.proofs.Common.{◌≡◌, ℕ, ◌+◌, ◌<◌, ◌≤◌, Bool, true, false, cond, ◌&&◌, ltb, sym, refl, ap, ◌∙◌, subst, arith, ltb-false, ltb-true, le-ltb, lt-ltb}
 use native.Mathlib.Decide.{ℕ_discrete}
 use Rattle.rules.specs.Indexed.{assign}
 use Rattle.rules.proofs.Assign.{assign_same, assign_other}
@@ -8,6 +8,9 @@ use Rattle.forest.specs.Nodes.{Nodes, cleared}
 -- b is a with the marked objects below i cleared
 abbrev pub ClearedBelow : (ℕ → Bool) → Nodes → Nodes → ℕ → Type 0
 ClearedBelow m a b i = (k : ℕ) → b k ≡ cond (ltb k i && m k) (cleared (a k)) (a k)
+
+pub cleared_none : (m : ℕ → Bool) (a : Nodes) → ClearedBelow m a a 0
+cleared_none m a k = sym (ap (λ t. cond (t && m k) (cleared (a k)) (a k)) (le-ltb k 0 (omega arith)))
 
 and_false : (t : Bool) → (t && false) ≡ false
 and_false true = refl
@@ -49,3 +52,11 @@ module _ (m : ℕ → Bool) (a b : Nodes) (i : ℕ) (u : ClearedBelow m a b i) w
       go : Dec (k ≡ i) → b k ≡ cond (ltb k (i + 1) && m k) (cleared (a k)) (a k)
       go (yes q) = subst (λ (z : ℕ). b z ≡ cond (ltb z (i + 1) && m z) (cleared (a z)) (a z)) (sym q) (not_reached i (omega arith) ∙ here)
       go (no q) = others k q
+
+  -- where nothing is marked past the end
+  pub cleared_all : ((k : ℕ) → m k ≡ true → k < i) → (k : ℕ) → b k ≡ cond (m k) (cleared (a k)) (a k)
+  cleared_all within k = u k ∙ ap (λ t. cond t (cleared (a k)) (a k)) (go (m k) refl)
+    where
+      go : (t : Bool) → m k ≡ t → (ltb k i && m k) ≡ m k
+      go true q = ap (λ t. t && m k) (lt-ltb k i (within k q))
+      go false q = ap (λ t. ltb k i && t) q ∙ and_false (ltb k i) ∙ sym q

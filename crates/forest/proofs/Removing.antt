@@ -9,7 +9,7 @@ use Rattle.forest.specs.Forest.{weight}
 use Rattle.forest.specs.Spares.{Stocked, Served}
 use Rattle.forest.specs.Steps.{Kept}
 use Rattle.forest.proofs.Keeping.{formed}
-use Rattle.forest.proofs.Steps.{charging, charged_is, charging_live, Removal, removal_done}
+use Rattle.forest.proofs.Steps.{charging, charged_is, charging_live, charging_pages, Removal, removal_done}
 
 -- the table after the payer was charged and the entry cleared
 abbrev pub unlinking : ℕ → Nodes → ℕ → ℕ → Nodes
@@ -25,6 +25,9 @@ module _ (m : ℕ) (a : Nodes) (d e : ℕ) where
 
   pub unlinking_live : (x : ℕ) → is_live (unlinking m a d e x).body ≡ is_live (a x).body
   unlinking_live = split (λ x n. is_live n.body ≡ is_live (a x).body) (charging_live 0 m a d d) (charging_live 0 m a d)
+
+  pub unlinking_pages : (x : ℕ) → (unlinking m a d e x).page ≡ (a x).page
+  unlinking_pages = split (λ x n. n.page ≡ (a x).page) (charging_pages 0 m a d d) (charging_pages 0 m a d)
 
 -- what the writes come to
 pub unlinked_is : (a a₁ a₂ : Nodes) (d e c m : ℕ) → c ≡ (a d).payer → a₁ ≡ assign a c (with_body (a c) (charged_body 0 m (a c).body)) → a₂ ≡ assign a₁ d (with_entry (a₁ d) e None) → a₂ ≡ unlinking m a d e

@@ -1,12 +1,12 @@
 -- Pages of the volume: one begins to serve a page of a segment, or serves nothing any more.
-use Rattle.std.proofs.Common.{◌≡◌, ℕ, suc, ◌+◌, ◌<◌, Some, None, Option, sym, refl, ap, ◌∙◌, subst, arith}
+use Rattle.std.proofs.Common.{◌≡◌, ℕ, suc, ◌+◌, ◌<◌, ◌≤◌, Some, None, Option, sym, refl, ap, ◌∙◌, subst, arith}
 use mathlib.Core.Logic.{∥∥₁_elim}
 use native.Mathlib.Decide.{ℕ_discrete}
 use native.Mathlib.Nat.{ℕ_set}
 use Rattle.rules.specs.Indexed.{assign, sum}
 use Rattle.rules.proofs.Sums.{sum_ext, sum_assign}
 use Rattle.rules.proofs.Assign.{assign_same, assign_other}
-use Rattle.forest.specs.Nodes.{Node, Nodes, with_page}
+use Rattle.forest.specs.Nodes.{Node, Nodes, with_page, WellFormed}
 use Rattle.forest.specs.Forest.{has}
 use Rattle.forest.specs.Spares.{pages_in_use, ServesNothing, Served}
 use Rattle.forest.proofs.Created.{none_not_some}
@@ -27,6 +27,14 @@ served_kept n item height a b same s = record {
 -- a page of the volume serves one page only
 pub served_alone : {n : ℕ} {item : ℕ → ℕ} {height : ℕ} {a : Nodes} → ∥ Served n item height a ∥₁ → (i k j m v : ℕ) → (a i).page k ≡ Some v → (a j).page m ≡ Some v → (i ≡ j) × (k ≡ m)
 served_alone s i k j m v h g = (∥∥₁_elim s (ℕ_set i j) (λ z. (z.alone i k j m v h g).0), ∥∥₁_elim s (ℕ_set k m) (λ z. (z.alone i k j m v h g).1))
+
+-- a segment has no page past the sixteenth
+pub pages_short : (a : Nodes) → WellFormed a → (i k : ℕ) → 16 ≤ k → (a i).page k ≡ None
+pages_short a s i k h = go ((a i).page k) refl
+  where
+    go : (o : Option ℕ) → (a i).page k ≡ o → o ≡ None
+    go None q = refl
+    go (Some v) q = let l = (s.pages i k v q).1 in absurd (omega arith)
 
 -- page k of i is served by o
 module _ (a b : Nodes) (n : ℕ) (item : ℕ → ℕ) (height i k : ℕ) (o : Option ℕ) (few : i < 257) (within : k < 16) (here : b ≡ assign a i (with_page (a i) k o)) where

@@ -44,6 +44,13 @@ cut_count w keep P n e = let h = count_cut (pages_of w P) keep in omega arith
 abbrev pub cut_upto : ℕ → ℕ → (ℕ → Option ℕ) → ℕ → Option ℕ
 cut_upto keep k P x = cond (ltb x keep) (P x) (cond (ltb x k) None (P x))
 
+pub cut_start : (keep : ℕ) (P : ℕ → Option ℕ) → cut_upto keep keep P ≡ P
+cut_start keep P = fun_ext (λ x. go x (ltb x keep))
+  where
+    go : (x : ℕ) (t : Bool) → cond t (P x) (cond t None (P x)) ≡ P x
+    go x true = refl
+    go x false = refl
+
 pub cut_next : (keep k : ℕ) (P : ℕ → Option ℕ) → keep ≤ k → assign (cut_upto keep k P) k None ≡ cut_upto keep (k + 1) P
 cut_next keep k P h = fun_ext (λ x. go x (eqb x k) refl)
   where

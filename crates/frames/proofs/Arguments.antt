@@ -1,5 +1,5 @@
 -- The arguments of a call that is written: their words, and the test of their values, one after the other. Assumes nothing.
-use Rattle.std.proofs.Common.{◌≡◌, ℕ, suc, ◌+◌, ◌≤◌, ◌++◌, Bool, not, List, [], ◌∷◌, length, sym, refl, ap, ◌∙◌, ap₂, arith, ◌⊎◌, inl, inr, set}
+use Rattle.std.proofs.Common.{◌≡◌, ℕ, zero, suc, ◌+◌, ◌<◌, ◌≤◌, ◌++◌, Bool, not, List, [], ◌∷◌, length, get_or, drop, None, sym, refl, ap, ◌∙◌, ap₂, arith, ◌⊎◌, inl, inr, set}
 use Rattle.std.proofs.lemmas.Grind.{common_steps}
 use Rattle.std.proofs.lemmas.Bool.Decides.{nat_tests}
 use Rattle.std.proofs.lemmas.Iterator.Adapters.{position_from-zero}
@@ -9,9 +9,10 @@ use Rattle.frames.specs.declared.fault.Flaw.TheVariants.{OutOfRange}
 use Rattle.frames.specs.declared.table.Parameter.{Parameter}
 use Rattle.frames.specs.declared.operation.Operation.{Operation}
 use Rattle.frames.specs.Operations.{operation_number}
-use Rattle.frames.specs.Words.{head_of}
+use Rattle.frames.specs.Words.{word_of, head_of}
 use Rattle.frames.specs.Faults.{blame}
-use Rattle.frames.specs.Table.{within, parameters_of, arity}
+use Rattle.frames.specs.Table.{kind_code, within, parameters_of, arity}
+use Rattle.frames.specs.Decode.{or_else, deny_unless}
 use Rattle.frames.specs.Encode.{argument_words, frame_of, value_fault, put}
 use Rattle.frames.proofs.Buffers.{put_none, filled}
 
@@ -20,6 +21,13 @@ pub arguments_length : (ps : List Parameter) (vs : List ℕ) → length ps ≤ l
 arguments_length [] vs l = refl
 arguments_length (p ∷ ps) [] l = let z : ⊥ = omega arith in absurd z
 arguments_length (p ∷ ps) (v ∷ vs) l = ap suc (arguments_length ps vs (omega arith))
+
+-- the word of one argument
+pub argument_at : (ps : List Parameter) (vs : List ℕ) (i : ℕ) (d : Parameter) → i < length ps → i < length vs → word_of (kind_code (get_or ps i d).kind) (get_or vs i 0) ≡ get_or (argument_words ps vs) i 0
+argument_at [] vs i d h k = let z : ⊥ = omega arith in absurd z
+argument_at (p ∷ ps) [] i d h k = let z : ⊥ = omega arith in absurd z
+argument_at (p ∷ ps) (v ∷ vs) zero d h k = refl
+argument_at (p ∷ ps) (v ∷ vs) (suc i) d h k = argument_at ps vs i d (omega arith) (omega arith)
 
 -- where no argument is left
 pub none_put : (k : ℕ) (ps : List Parameter) (vs buffer : List ℕ) → (length ps ≡ 0) ⊎ (length vs ≡ 0) → put k (argument_words ps vs) buffer ≡ buffer
@@ -55,3 +63,11 @@ fault_from n (p ∷ ps) (v ∷ vs) =
 pub fault_at : (ps : List Parameter) (vs : List ℕ) → value_fault 1 ps vs ≡ option_map (λ i. blame OutOfRange (1 + i)) (position outside (zip ps vs))
 fault_at ps vs =
     sym (fault_from 0 ps vs) ∙ ap (option_map (λ i. blame OutOfRange (1 + i))) (sym (position_from-zero outside (zip ps vs)))
+
+-- one value more, with what the test answered
+pub value_more : (ps : List Parameter) (vs : List ℕ) (i : ℕ) (d : Parameter) (b : Bool) → i < length ps → i < length vs → b ≡ within (get_or ps i d) (get_or vs i 0) → value_fault (1 + i) (drop i ps) (drop i vs) ≡ or_else (deny_unless b (blame OutOfRange (1 + i))) (value_fault (1 + (i + 1)) (drop (i + 1) ps) (drop (i + 1) vs))
+value_more ps vs i d b h k e = grind (arith, common_steps, nat_tests)
+
+-- at the end no value is left
+pub values_done : (i : ℕ) (ps : List Parameter) (vs : List ℕ) → i ≡ length ps → value_fault (1 + i) (drop i ps) vs ≡ None
+values_done i ps vs e = grind (arith, common_steps, nat_tests)

@@ -11,6 +11,9 @@ use Rattle.frames.specs.Decode.{bind, unless, argument_fault, call_in, request_o
 use Rattle.frames.specs.Walks.{Walked}
 
 -- zeros behind a list change none of its values
+zeros : (k i : ℕ) → ◌≡◌ {A = ℕ} (get_or (replicate k 0) i 0) 0
+zeros k i = grind (arith, common_steps)
+
 behind_zeros : (xs : List ℕ) (k i : ℕ) → get_or (xs ++ replicate k 0) i 0 ≡ get_or xs i 0
 behind_zeros xs k i = grind (arith, common_steps)
 

@@ -2,6 +2,7 @@ pub mod Shifts
 mod Words
 mod Outcomes
 mod Numbers
+mod Rows
 mod Heads
 mod Ranges
 mod Parts

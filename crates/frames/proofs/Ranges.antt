@@ -1,15 +1,16 @@
 -- A call is in range exactly where the tests of the writer pass. Assumes nothing.
 use Rattle.std.proofs.lemmas.Grind.{common_steps}
-use Rattle.std.proofs.Common.{◌≡◌, ℕ, suc, ◌≤◌, Bool, true, ◌&&◌, leb, List, [], ◌∷◌, length, None, Option, refl, ap₂, arith}
+use Rattle.std.proofs.Common.{◌≡◌, ℕ, suc, ◌≤◌, Bool, true, ◌&&◌, leb, List, [], ◌∷◌, length, ℤ, None, Option, refl, ap₂, arith}
 use Rattle.std.proofs.lemmas.Bool.Decides.{nat_tests}
 use Rattle.frames.specs.declared.fault.Flaw.TheVariants.{WrongCount, OutOfRange}
 use Rattle.frames.specs.Faults.{FrameFault, blame}
 use Rattle.frames.specs.declared.table.Parameter.{Parameter}
-use Rattle.frames.specs.Table.{within, parameters_of, data_of, takes_data}
+use Rattle.frames.specs.Words.{unsigned}
+use Rattle.frames.specs.Table.{within, amount, parameters_of, data_of, takes_data}
 use Rattle.frames.specs.Requests.{Request, call_number, arguments_of, data_in}
 use Rattle.frames.specs.Decode.{or_else, deny_unless, past_end}
 use Rattle.frames.specs.Encode.{encode, value_fault, refusal}
-use Rattle.frames.specs.Ranges.{InRange}
+use Rattle.frames.specs.Ranges.{Movable, InRange}
 use Rattle.frames.proofs.Outcomes.{or_else_none, test_passed}
 
 -- what the writer tests of a call, whatever the buffer
@@ -46,8 +47,21 @@ inside a v b l h = grind (arith, common_steps, nat_tests)
 at_most : (v b : ℕ) → v ≤ b → (leb 0 v && leb v b) ≡ true
 at_most v b h = inside 0 v b (omega arith) h
 
+movable : (z : ℤ) → within amount (unsigned z) ≡ true → Movable z
+movable z e = grind (arith, common_steps, nat_tests)
+
+amount_within : (z : ℤ) → Movable z → within amount (unsigned z) ≡ true
+amount_within z m = grind (arith, common_steps, nat_tests)
+
 ends : (a b : ℕ) (f : FrameFault) → deny_unless (leb a b) f ≡ None → a ≤ b
 ends a b f e = grind (arith, common_steps, nat_tests)
+
+ends_so : (a b : ℕ) (f : FrameFault) → a ≤ b → deny_unless (leb a b) f ≡ None
+ends_so a b f h = grind (arith, common_steps, nat_tests)
+
+-- each argument that the writer admits is in its range
+ranged : (c : Request) → takes_data (data_of (call_number c)) (length (data_in c)) ≡ true → Within (parameters_of (call_number c)) (arguments_of c) → past_end c ≡ None → InRange c
+ranged c t w p = grind (arith, common_steps, nat_tests)
 
 -- and each in its range is admitted
 admitted : (c : Request) → InRange c → (takes_data (data_of (call_number c)) (length (data_in c)) ≡ true) × Within (parameters_of (call_number c)) (arguments_of c) × (past_end c ≡ None)

@@ -1,12 +1,12 @@
 -- The frame of a call that passes the tests of the writer reads back as that call. Assumes nothing.
 use Rattle.std.proofs.lemmas.Grind.{common_steps}
-use Rattle.std.proofs.Common.{◌≡◌, ℕ, suc, ◌+◌, ◌-◌, ◌^◌, ◌<◌, ◌≤◌, Bool, true, cond, ◌&&◌, ltb, List, [], ◌∷◌, ◌++◌, map, length, None, Ok, Err, Option, Result, sym, refl, ap, ◌∙◌, ap₂, arith}
+use Rattle.std.proofs.Common.{◌≡◌, ℕ, suc, ◌+◌, ◌-◌, ◌^◌, ◌<◌, ◌≤◌, Bool, true, cond, ◌&&◌, ltb, List, [], ◌∷◌, ◌++◌, map, length, ℤ, None, Ok, Err, Option, Result, sym, refl, ap, ◌∙◌, ap₂, arith}
 use Rattle.std.proofs.lemmas.Bool.{and_from, eq-eqb, le-leb, lt-ltb}
 use Rattle.std.proofs.lemmas.Bool.Decides.{nat_tests}
 use Rattle.frames.specs.declared.fault.Flaw.TheVariants.{NotACall, WrongCount, OutOfRange}
 use Rattle.frames.specs.Faults.{FrameFault, blame}
 use Rattle.frames.specs.declared.table.Parameter.{Parameter}
-use Rattle.frames.specs.Words.{value_of, word_of, number_in, count_in, head_of}
+use Rattle.frames.specs.Words.{value_of, word_of, number_in, count_in, head_of, unsigned}
 use Rattle.frames.specs.Table.{kind_code, within, parameters_of, arity, data_of, takes_data, takes}
 use Rattle.frames.specs.Requests.{Request, call_number, arguments_of, data_in, reply_words}
 use Rattle.frames.specs.Decode.{bind, unless, or_else, deny_unless, argument, err_or, argument_fault, is_head, is_counted, call_in, request_in, spelled, past_end, past_room, decode}
@@ -20,6 +20,9 @@ use Rattle.frames.proofs.Ranges.{in_range, Passes, Within, passes}
 abbrev Small : List ℕ → Type 0
 Small [] = Unit {0}
 Small (v ∷ vs) = (v < 2 ^ 28) × Small vs
+
+unsigned_small : (z : ℤ) → unsigned z < 2 ^ 28
+unsigned_small z = grind (arith, nat_tests)
 
 all_small : (c : Request) → InRange c → Small (arguments_of c)
 all_small c r = grind (arith, common_steps, nat_tests)
@@ -55,6 +58,14 @@ values_back [] (v ∷ vs) s l = let z : ⊥ = omega arith in absurd z
 values_back (p ∷ ps) [] s l = let z : ⊥ = omega arith in absurd z
 values_back (p ∷ ps) (v ∷ vs) s l =
     ap₂ (λ (x : ℕ) (xs : List ℕ). x ∷ xs) (value_of_word (kind_code p.kind) v s.0) (values_back ps vs s.1 (omega arith))
+
+-- a call has as many argument words as the table says
+arguments_count : (c : Request) → length (argument_words (parameters_of (call_number c)) (arguments_of c)) ≡ arity (call_number c)
+arguments_count c = grind arith
+
+-- and its frame has a head, these and the data words
+pub encode_length : (c : Request) → length (encode c) ≡ (1 + arity (call_number c)) + length (data_in c)
+encode_length c = grind (arith, common_steps, nat_tests)
 
 module _ (c : Request) (p : Passes c) where
   words : List ℕ

@@ -1,7 +1,8 @@
 -- Digits, and the numbers that they spell. Assumes nothing.
-use Rattle.std.proofs.Common.{◌≡◌, ℕ, zero, suc, ◌+◌, ◌*◌, ◌/◌, ◌%◌, ◌^◌, ◌<◌, ◌≤◌, List, [], ◌∷◌, length, Some, refl, ap, ◌∙◌, mod-lt, mul_assoc, mul_comm, div-lt_iff_lt-mul, add-mul, pow-suc, div-add-mod', arith, lit<}
+use Rattle.std.proofs.Common.{◌≡◌, ℕ, zero, suc, ◌+◌, ◌*◌, ◌/◌, ◌%◌, ◌^◌, ◌<◌, ◌≤◌, List, [], ◌∷◌, length, get_or, drop, Some, None, sym, refl, ap, ◌∙◌, mod-lt, mul_assoc, mul_comm, div-lt_iff_lt-mul, add-mul, pow-suc, div-add-mod', arith, lit<, pow_mono, pow-add}
 use Rattle.std.proofs.Math.Nat.{one-le-pow, pow-le-pow_right}
 use Rattle.std.proofs.Math.Arith.{digits_div, digits_mod, digits_lt}
+use Rattle.std.proofs.lemmas.List.{at_drop_more, at_drop_all}
 use Rattle.std.proofs.lemmas.Option.{option_and_then_some, same_Some}
 use Rattle.std.specs.Option.{option_and_then}
 use Rattle.std.proofs.lemmas.Bool.Decides.{nat_tests}
@@ -22,6 +23,31 @@ digit_is_text b d e = (grind (arith, nat_tests), grind (arith, nat_tests))
 
 pub seven_digits_are_most : (i : ℕ) → i < 8 → 16 ^ i ≤ 16 ^ 7
 seven_digits_are_most i few = pow-le-pow_right {n = 16} (lit< tt) {i = i} {j = 7} (omega arith)
+
+-- i digits take 4 bits each
+pub one_more_digit_fits : (n i d : ℕ) → n < 2 ^ (4 * i) → d < 16 → n * 16 + d < 2 ^ (4 * (i + 1))
+one_more_digit_fits n i d h l =
+    let more : 4 * (i + 1) ≡ 4 * i + 4 = omega arith in
+    let step : 2 ^ (4 * (i + 1)) ≡ 2 ^ (4 * i) * 16 = ap (λ k. 2 ^ k) more ∙ pow-add 2 (4 * i) 4 in
+    omega arith
+
+pub eight_digits_fit : (n i d : ℕ) → n < 2 ^ (4 * i) → i < 8 → d < 16 → n * 16 + d < 2 ^ 32
+eight_digits_fit n i d h k l =
+    let few : 4 * (i + 1) ≤ 32 = omega arith in omega (arith, one_more_digit_fits n i d h l, pow_mono {i = 4 * (i + 1)} {j = 32} few)
+
+-- the first i digits spell n
+module _ (ds : List ℕ) (i n : ℕ) (so : hex_from n (drop i ds) ≡ hex_from 0 ds) where
+  digit_leads_on : i < length ds → option_and_then (λ d. hex_from (n * 16 + d) (drop (i + 1) ds)) (hex_digit (get_or ds i 0)) ≡ hex_from 0 ds
+  digit_leads_on lt = sym (at_drop_more (hex_from n) ds i 0 lt) ∙ so
+
+  pub next_digit_spells_on : i < length ds → (d : ℕ) → hex_digit (get_or ds i 0) ≡ Some d → hex_from (n * 16 + d) (drop (i + 1) ds) ≡ hex_from 0 ds
+  next_digit_spells_on lt d e = ap (option_and_then (λ x. hex_from (n * 16 + x) (drop (i + 1) ds))) (sym e) ∙ digit_leads_on lt
+
+  pub no_digit_spells_nothing : i < length ds → hex_digit (get_or ds i 0) ≡ None → None ≡ hex_from 0 ds
+  no_digit_spells_nothing lt e = ap (option_and_then (λ x. hex_from (n * 16 + x) (drop (i + 1) ds))) (sym e) ∙ digit_leads_on lt
+
+  pub all_digits_spell_number : length ds ≤ i → Some n ≡ hex_from 0 ds
+  all_digits_spell_number past = sym (at_drop_all (hex_from n) ds i past) ∙ so
 
 -- a digit d in front of k digits that spell w
 front_digit_adds : (n k d w : ℕ) → (n * 16 + d) * 16 ^ k + w ≡ n * 16 ^ suc k + (d * 16 ^ k + w)

@@ -1,10 +1,11 @@
 -- What a splitter has still to give, byte by byte. Assumes nothing.
 use Rattle.std.proofs.Common.{◌≡◌, ℕ, zero, suc, ◌-◌, ◌<◌, ◌≤◌, true, false, cond, eqb, leb, List, [], ◌∷◌, ◌++◌, length, take, None, vec_items, vec_len, Decides, sym, refl, ap, ◌∙◌, ⊎_elim, arith, length-append}
+use Rattle.std.proofs.lemmas.List.{take_all, nil_from_length}
 use Rattle.std.proofs.lemmas.Bool.{cases_Bool, leb-false, leb-true}
 use Rattle.std.proofs.lemmas.Bool.Decides.{nat_tests}
 use Rattle.listing.specs.declared.splitter.Splitter.{Splitter}
 use Rattle.listing.specs.Lines.{line_in}
-use Rattle.listing.specs.Listings.{Numbered, lines_from, numbered_from}
+use Rattle.listing.specs.Listings.{Numbered, last_line, lines_from, numbered_from}
 use Rattle.listing.specs.Pending.{begun_line, pending}
 
 -- what is given of lines, the first of them the one after `ended` lines
@@ -28,10 +29,27 @@ count_tells_over s = (
 pub newline_ends_line : (s t : Splitter) (l : Numbered) (b : ℕ) → s.ended < 64 → b ≡ 10 → l ≡ begun_line s → t.ended ≡ suc s.ended → vec_items t.begun ≡ [] → (bs : List ℕ) → pending s (b ∷ bs) ≡ l ∷ pending t bs
 newline_ends_line s t l b left newline line counted emptied bs = let first = first_is_given s (lines_from [] bs) left in cc
 
+last_is_line : (xs : List ℕ) → 0 < length xs → last_line xs ≡ xs ∷ []
+last_is_line [] h = absurd (omega arith)
+last_is_line (x ∷ xs) h = refl
+
+pub end_ends_line : (s : Splitter) (l : Numbered) → s.ended < 64 → (vec_len s.begun ≡ 0 → ⊥) → l ≡ begun_line s → pending s [] ≡ l ∷ []
+end_ends_line s l left some line =
+    ap (given_from s.ended) (last_is_line (vec_items s.begun) (omega arith))
+    ∙ first_is_given s [] left
+    ∙ (λ i. sym line i ∷ numbered_from (suc (suc s.ended)) (take_all (64 - suc s.ended) [] (omega arith) i))
+
+pub end_gives_nothing : (s : Splitter) → vec_len s.begun ≡ 0 → pending s [] ≡ []
+end_gives_nothing s none =
+    ap (λ xs. given_from s.ended (last_line xs)) (nil_from_length (vec_items s.begun) (omega arith)) ∙ ap (numbered_from (suc s.ended)) (take_all (64 - s.ended) [] (omega arith))
+
 other_byte_goes_on : (s : Splitter) (b : ℕ) → (b ≡ 10 → ⊥) → (bs : List ℕ) → pending s (b ∷ bs) ≡ given_from s.ended (lines_from (vec_items s.begun ++ b ∷ []) bs)
 other_byte_goes_on s b other bs = grind (arith, nat_tests)
 
-long_line_says_nothing : (xs : List ℕ) → 200 < length xs → line_in xs ≡ None
+pub kept_byte_goes_on : (s t : Splitter) (b : ℕ) → (b ≡ 10 → ⊥) → t.ended ≡ s.ended → vec_items t.begun ≡ vec_items s.begun ++ b ∷ [] → (bs : List ℕ) → pending s (b ∷ bs) ≡ pending t bs
+kept_byte_goes_on s t b other counted kept bs = other_byte_goes_on s b other bs ∙ sym (λ i. given_from (counted i) (lines_from (kept i) bs))
+
+pub long_line_says_nothing : (xs : List ℕ) → 200 < length xs → line_in xs ≡ None
 long_line_says_nothing xs h = grind (arith, nat_tests)
 
 long_firsts_alike : (n k : ℕ) (xs ys : List ℕ) (ls : List (List ℕ)) → 200 < length xs → 200 < length ys → numbered_from n (take k (xs ∷ ls)) ≡ numbered_from n (take k (ys ∷ ls))

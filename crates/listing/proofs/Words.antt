@@ -1,9 +1,9 @@
 -- Words one behind the other, as the code cuts and collects them. Assumes nothing.
-use Rattle.std.proofs.Common.{◌≡◌, ℕ, suc, ◌/◌, ◌<◌, ◌≤◌, min, List, [], ◌∷◌, ◌++◌, length, Some, None, Option, option_map, refl, ap, ⊎_elim, append_assoc, arith, length-append}
-use Rattle.std.proofs.lemmas.List.{take_at, drop_at}
+use Rattle.std.proofs.Common.{◌≡◌, ℕ, suc, ◌-◌, ◌/◌, ◌<◌, ◌≤◌, min, List, [], ◌∷◌, ◌++◌, length, get_or, take, drop, Some, None, Option, option_map, sym, refl, ap, ◌∙◌, ⊎_elim, append_assoc, arith, length-append}
+use Rattle.std.proofs.lemmas.List.{take_at, take_rest, drop_at}
 use Rattle.std.proofs.lemmas.Bool.{cases_lt}
 use Rattle.std.proofs.lemmas.Bool.Decides.{nat_tests}
-use Rattle.listing.specs.Lines.{before, word_in, words_in}
+use Rattle.listing.specs.Lines.{hex_from, before, word_in, words_in}
 
 short_is_no_word : (bs : List ℕ) → length bs < 9 → word_in bs ≡ None
 short_is_no_word [] l = refl
@@ -38,3 +38,14 @@ behind_one_more ws w (Some vs) = ap (λ us. Some us) (append_assoc ws (w ∷ [])
 
 -- a turn of the loop over the pieces
 pub ruleset word_by_word = (piece_is_first_word, behind_one_more)
+
+-- all of a list but its first element, as a pattern `[first, rest @ ..]` cuts it
+abbrev pub tail : List ℕ → List ℕ
+tail xs = take (length xs - 1) (drop 1 xs)
+
+pub tail_is_rest : (x : ℕ) (xs : List ℕ) → tail (x ∷ xs) ≡ xs
+tail_is_rest x xs = take_rest (x ∷ xs) 1
+
+pub tail_spells_word : (xs : List ℕ) → length (tail xs) ≡ 8 → get_or xs 0 0 ≡ 32 → hex_from 0 (tail xs) ≡ word_in xs
+tail_spells_word [] e f = absurd (omega arith)
+tail_spells_word (x ∷ xs) e f = let eight : length xs ≡ 8 = sym (ap length (tail_is_rest x xs)) ∙ e in ap (hex_from 0) (tail_is_rest x xs) ∙ grind (arith, nat_tests)

@@ -28,7 +28,8 @@ fn hex_digit(byte: u8) -> Option<u32>
     ensures { result ≡ hex_digit byte }
 {
     match byte {
-        b'0'..=b'9' | b'A'..=b'F' => char::from(byte).to_digit(16),
+        b'0'..=b'9' => char::from(byte).to_digit(10),
+        b'A'..=b'F' => char::from(byte).to_digit(16),
         _ => None,
     }
 }

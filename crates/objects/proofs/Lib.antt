@@ -3,5 +3,4 @@ mod Charging
 mod Counting
 mod Fresh
 mod Lacking
-mod Popped
 mod Storing

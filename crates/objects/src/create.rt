@@ -49,7 +49,7 @@ impl Objects {
         storage.charge(directory, taken, 0);
         let index = storage.unused.pop();
         let payer = payer_of(body, index, above);
-        storage.table.set_entry(directory, place, Some(index));
+        storage.table.set_entry(directory, place.value, Some(index));
         storage.table.set_body(index, body);
         storage
             .table
@@ -59,27 +59,31 @@ impl Objects {
 
 impl Objects {
     /// Puts a segment without pages at an empty place of a directory.
-    pub fn create_segment(&mut self, directory: usize, place: Nibble)
+    pub fn create_segment(&mut self, directory: usize, place: usize)
         requires directory { IsDir (nodes self.old directory).body }
-        requires vacant { (nodes self.old directory).entry place.value ≡ None }
+        requires within { place < 16 }
+        requires vacant { (nodes self.old directory).entry place ≡ None }
         requires paid { 1 ≤ (cell_at (nodes self.old) (nodes self.old directory).payer).left }
-        ensures tree { Enacted (nodes self.old) (nodes self.new) (path_to (nodes self.old) directory) (change (change_place place.value (create new_segment)) 1 0) }
+        ensures tree { Enacted (nodes self.old) (nodes self.new) (path_to (nodes self.old) directory) (change (change_place place (create new_segment)) 1 0) }
         ensures stays { Stays (nodes self.old) (nodes self.new) }
         ensures records { records self.new ≡ records self.old }
     {
+        let place = Nibble::new(place);
         self.insert(directory, place, Body::Segment, 1);
     }
 
     /// Puts a directory at an empty place of a directory, with a cell if the grant is not 0.
-    pub fn create_directory(&mut self, directory: usize, place: Nibble, label: Label, grant: u32)
+    pub fn create_directory(&mut self, directory: usize, place: usize, label: Label, grant: u32)
         requires directory { IsDir (nodes self.old directory).body }
+        requires within { place < 16 }
         requires small { grant ≤ 256 }
-        requires vacant { (nodes self.old directory).entry place.value ≡ None }
+        requires vacant { (nodes self.old directory).entry place ≡ None }
         requires paid { 1 + grant ≤ (cell_at (nodes self.old) (nodes self.old directory).payer).left }
-        ensures tree { Enacted (nodes self.old) (nodes self.new) (path_to (nodes self.old) directory) (change (change_place place.value (create (new_directory label grant))) (1 + grant) 0) }
+        ensures tree { Enacted (nodes self.old) (nodes self.new) (path_to (nodes self.old) directory) (change (change_place place (create (new_directory label grant))) (1 + grant) 0) }
         ensures stays { Stays (nodes self.old) (nodes self.new) }
         ensures records { records self.new ≡ records self.old }
     {
+        let place = Nibble::new(place);
         let cell = new_cell(grant);
         self.insert(
             directory,

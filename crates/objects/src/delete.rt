@@ -12,8 +12,7 @@ ghost use Rattle.objects.specs.Views.{nodes, records};
 
 use crate::objects::Objects;
 use crate::storage::Marks;
-use std::array;
-use tables::{Body, Nibble};
+use tables::Body;
 
 impl Objects {
     /// Whether an object in use is `top` or lies below it, by going up from it.
@@ -43,7 +42,11 @@ impl Objects {
     pub fn subtree(&self, top: usize) -> Marks
         ensures { (k : ℕ) → Tells (nodes self.now) top k (slice_index_or result k false) }
     {
-        array::from_fn(|index| self.is_part(index, top))
+        let mut marks = [false; 257];
+        for index in 0..self.storage.table.len() {
+            marks[index] = self.is_part(index, top);
+        }
+        marks
     }
 
     /// The records that an object stands for: itself, its present pages, and what its cell has left.
@@ -84,7 +87,7 @@ impl Objects {
         let back = self.weights(marks);
         let storage = &mut self.storage;
         storage.charge(directory, 0, back);
-        storage.table.set_entry(directory, Nibble::new(place), None);
+        storage.table.set_entry(directory, place, None);
         storage.release_marked(marks);
         back
     }

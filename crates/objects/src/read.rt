@@ -8,7 +8,6 @@ ghost use Rattle.objects.specs.Views.{nodes, records};
 ghost use Rattle.objects.specs.Writes.{told};
 
 use crate::objects::Objects;
-use tables::Nibble;
 use volumes::{PAGE_WORDS, Volume};
 
 impl Objects {
@@ -19,8 +18,7 @@ impl Objects {
         requires volume { records self.now ≤ pages_in (V.Volume.words volume.now) }
         ensures { result ≡ segment_word (pages_of (told (V.Volume.words volume.now)) (nodes self.now segment).page) index }
     {
-        let number = Nibble::new(index / PAGE_WORDS);
-        match self.storage.table.page(segment, number) {
+        match self.storage.table.page(segment, index / PAGE_WORDS) {
             Some(page) => volume.read(page, index % PAGE_WORDS).unwrap_or(0),
             None => 0,
         }

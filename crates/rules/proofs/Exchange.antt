@@ -12,7 +12,7 @@ use Rattle.labels.specs.Labels.{LawfulOrders, below}
 use Rattle.rules.specs.Indexed.{assign}
 use Rattle.rules.specs.Tree.{Path}
 use Rattle.rules.specs.Cells.{find, no_cell, charge}
-use Rattle.rules.specs.KnownNumbers.{Known, free, means}
+use Rattle.rules.specs.KnownNumbers.{Known, free, means, gone, through, after_removal}
 use Rattle.rules.specs.Changes.{Change, changed, paid_change, after_change, Effect, no_change, set_number, free_number, change, Store, tree_after, numbers_after, store_after}
 use Rattle.rules.specs.Calls.{first_number}
 use Rattle.rules.specs.Setup.{Setup, opened, nth}
@@ -30,6 +30,15 @@ use Rattle.rules.proofs.Isolation.{SameView, own, same_verdict, unchanged_number
 use Rattle.rules.proofs.Forks.{commute, forks}
 
 -- Changes of known numbers commute
+
+removal_cond : (r p : Path) (b : Bool) → after_removal r (cond b gone (means p)) ≡ cond b gone (cond (through r p) gone (means p))
+removal_cond a1 a2 a3 = grind (arith, common_steps, nat_tests)
+
+cond_commute : (b d : Bool) (x y : Known) → cond b x (cond d x y) ≡ cond d x (cond b x y)
+cond_commute a1 a2 a3 a4 = grind (arith, common_steps, nat_tests)
+
+removals_commute : (r r' : Path) (k : Known) → after_removal r (after_removal r' k) ≡ after_removal r' (after_removal r k)
+removals_commute a1 a2 a3 = grind (arith, common_steps, nat_tests)
 
 changes_commute : (q q' : Path) (x x' : Change) (k : Known) → after_change q x (after_change q' x' k) ≡ after_change q' x' (after_change q x k)
 changes_commute a1 a2 a3 a4 a5 = grind (arith, common_steps, nat_tests)

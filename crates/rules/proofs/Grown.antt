@@ -1,16 +1,16 @@
 -- Labels grow along the tree, and calls keep this.
 use Rattle.std.proofs.lemmas.Grind.{common_steps}
 use Rattle.std.proofs.lemmas.Bool.Decides.{nat_tests}
-use Rattle.std.proofs.Common.{arith, ◌≡◌, ℕ, true, false, eqb, [], ◌∷◌, ◌++◌, Some, None, Option, sym, refl, ◌∙◌, subst, true≢false, eq-eqb, eqb-true}
+use Rattle.std.proofs.Common.{arith, ◌≡◌, ℕ, Bool, true, false, not, ◌||◌, eqb, [], ◌∷◌, ◌++◌, ℤ, Some, None, Option, sym, refl, ◌∙◌, subst, true≢false, eq-eqb, eqb-true}
 use Rattle.labels.specs.declared.label.Label.{Label}
 use Rattle.frames.specs.Requests.{Request}
-use Rattle.labels.specs.Labels.{Orders, LawfulOrders, valid, below}
+use Rattle.labels.specs.Labels.{same_label, Orders, LawfulOrders, valid, below}
 use Rattle.rules.specs.Segments.{Pages}
-use Rattle.rules.specs.Tree.{Cell, Tree, empty, segment, directory, Path}
+use Rattle.rules.specs.Tree.{Cell, Tree, empty, segment, directory, Path, new_cell, is_empty, label_in}
 use Rattle.rules.specs.Cells.{cell_used, Found, nothing, found, find, no_cell, charge}
 use Rattle.rules.specs.KnownNumbers.{Known, free, means, gone, through}
 use Rattle.rules.specs.Changes.{PlaceChange, create, remove, regrant, Change, change_place, write_words, keep_pages, with_grant, place_after, places_after, changed, map_cell, Effect, no_change, set_number, free_number, change}
-use Rattle.rules.specs.Calls.{is_free_number, is_gone, is_segment, is_directory, found_subject, subject, judge, settled}
+use Rattle.rules.specs.Calls.{is_free_number, is_gone, is_segment, is_directory, found_subject, subject, judge_move, judge, settled}
 use Rattle.rules.specs.Responses.{effect_of, path_of}
 use Rattle.rules.proofs.Assign.{assign_cases}
 use Rattle.rules.proofs.Updates.{cell_on_path, updated}
@@ -19,6 +19,9 @@ use Rattle.rules.proofs.Outcomes.{Holds, holds, free_holds, gone_holds}
 use Rattle.rules.proofs.Places.{On}
 
 -- Labels
+
+pub same_eq : (l m : Label) → same_label l m ≡ true → l ≡ m
+same_eq a1 a2 a3 = grind (arith, common_steps, nat_tests)
 
 module _ (o : Orders) (laws : LawfulOrders o) where
   pub below_trans : (a b c : Label) → below o a b ≡ true → below o b c ≡ true → below o a c ≡ true
@@ -123,6 +126,9 @@ Proper o (change_place e t) m (directory n c places) = ProperTurn o m (places e)
 Proper o (write_words first ds) m (directory n c places) = Unit {0}
 Proper o (keep_pages k) m (directory n c places) = Unit {0}
 
+pub grown_regranted : (o : Orders) (l : Label) (a b : ℕ) (y : Tree) → Grown o l y → Grown o l (with_grant a b y)
+grown_regranted a1 a2 a3 a4 a5 a6 = grind (arith, common_steps, nat_tests)
+
 grown_turn : (o : Orders) (m : Label) (y : Tree) (t : PlaceChange) → Grown o m y → ProperTurn o m y t → Grown o m (place_after t y)
 grown_turn a1 a2 a3 a4 a5 a6 = grind (arith, common_steps, nat_tests)
 
@@ -223,10 +229,22 @@ Legit o me f (set_number n e) = On (λ m pay y. Labelled (λ z. below o z me ≡
 Legit o me f (free_number n) = Unit {0}
 Legit o me f (change x a b) = On (λ m pay y. (me ≡ m) × Proper o x m y) f
 
+or_false : (b : Bool) → (b || false) ≡ true → b ≡ true
+or_false a1 a2 = grind (arith, common_steps, nat_tests)
+
+tied_new : (g : ℕ) (m n : Label) → (same_label m n || not (eqb g 0)) ≡ true → Tied (new_cell g) m n
+tied_new a1 a2 a3 a4 = grind (arith, common_steps, nat_tests)
+
 module _ (o : Orders) (me : Label) (known : ℕ → Known) where
+  label_in_labelled : (m : Label) (y : Tree) → not (is_empty y) ≡ true → below o (label_in m y) me ≡ true → Labelled (λ z. below o z me ≡ true) m [] y
+  label_in_labelled a1 a2 a3 a4 = grind (arith, common_steps, nat_tests)
+
   module _ (l : Label) (c : Option Cell) (places : ℕ → Tree) (pay : Cell) where
     abbrev Here : Found
     Here = found l pay (directory l c places)
+
+    move_legit : me ≡ l → (e : ℕ) (y : Tree) (a : ℤ) → Holds (Legit o me Here) (judge_move l pay e y a)
+    move_legit a1 a2 a3 a4 = grind (arith, common_steps, nat_tests)
 
     directory_legit : (r : Request) → Holds (Legit o me Here) (judge o me known (is_directory l pay places) r)
     unfolding judge

@@ -1,7 +1,7 @@
 -- Number 0 of each process always means the root, and there are no numbers past 15.
 use Rattle.std.proofs.lemmas.Grind.{common_steps}
 use Rattle.std.proofs.lemmas.Bool.Decides.{nat_tests}
-use Rattle.std.proofs.Common.{◌≡◌, ℕ, ◌<◌, ◌≤◌, true, cond, List, [], ◌∷◌, ◌++◌, Some, None, Ok, Err, Option, Result, sym, refl, ap, ◌∙◌, subst, true≢false, arith, ne_eqb}
+use Rattle.std.proofs.Common.{◌≡◌, ℕ, ◌<◌, ◌≤◌, true, cond, List, [], ◌∷◌, ◌++◌, ℤ, Some, None, Ok, Err, Option, Result, sym, refl, ap, ◌∙◌, subst, true≢false, arith, ne_eqb}
 use Rattle.labels.specs.declared.label.Label.{Label}
 use Rattle.frames.specs.Faults.{FrameFault}
 use Rattle.frames.specs.Requests.{Request}
@@ -9,10 +9,10 @@ use Rattle.frames.specs.Decode.{decode}
 use Rattle.labels.specs.Labels.{Orders}
 use Rattle.frames.specs.Ranges.{InRange}
 use Rattle.rules.specs.Indexed.{assign}
-use Rattle.rules.specs.Tree.{Path}
+use Rattle.rules.specs.Tree.{Cell, Tree, Path}
 use Rattle.rules.specs.KnownNumbers.{Known, free, means, is_free, new_numbers}
 use Rattle.rules.specs.Changes.{create, remove, regrant, Change, change_place, write_words, keep_pages, after_change, Effect, no_change, set_number, free_number, change, Store, store_after}
-use Rattle.rules.specs.Calls.{Subject, subject, judge, first_number}
+use Rattle.rules.specs.Calls.{Subject, subject, judge_move, judge, first_number}
 use Rattle.rules.specs.Setup.{Setup, opened, nth}
 use Rattle.rules.specs.Responses.{RawCall, effect_of, path_of, verdict, left_by, after}
 use Rattle.rules.specs.Histories.{after_all}
@@ -27,6 +27,9 @@ Careful known no_change = Unit {0}
 Careful known (set_number n e) = (is_free (known n) ≡ true) × (n < 16)
 Careful known (free_number n) = 1 ≤ n
 Careful known (change x a b) = Unit {0}
+
+move_careful : (known : ℕ → Known) (l : Label) (c : Cell) (e : ℕ) (y : Tree) (a : ℤ) → Holds (Careful known) (judge_move l c e y a)
+move_careful a1 a2 a3 a4 a5 a6 = grind (arith, common_steps, nat_tests)
 
 careful : (o : Orders) (me : Label) (known : ℕ → Known) (x : Subject) (r : Request) → InRange r → Holds (Careful known) (judge o me known x r)
 unfolding judge

@@ -6,9 +6,11 @@ use Rattle.rules.specs.Denials.{fault}
 use Rattle.labels.specs.declared.label.Label.{Label}
 use Rattle.frames.specs.Requests.{Request}
 use Rattle.labels.specs.Labels.{Orders}
+use Rattle.rules.specs.Segments.{Pages}
+use Rattle.rules.specs.Tree.{Cell, Tree}
 use Rattle.rules.specs.KnownNumbers.{Known}
 use Rattle.rules.specs.Changes.{Effect, no_change, free_number}
-use Rattle.rules.specs.Calls.{Judgement, deny, done, require, is_free_number, is_gone, judge, settled}
+use Rattle.rules.specs.Calls.{Judgement, deny, done, require, Subject, is_free_number, is_gone, on_directory, on_segment, judge, settled}
 use Rattle.rules.specs.Responses.{effect_of}
 
 -- P of the effect_of, from the tests that passed
@@ -27,6 +29,14 @@ holds P pk (require b d k rest) h = go b (λ e. holds P pk rest (h e))
     go false f = pk
 
 module _ (P : Effect → Type 0) where
+  -- a call on a directory
+  pub on_directory_holds : (x : Subject) (k : Label → Cell → (ℕ → Tree) → Judgement) → ((l : Label) (c : Cell) (places : ℕ → Tree) → Holds P (k l c places)) → Holds P (on_directory x k)
+  on_directory_holds a1 a2 a3 = grind (arith, common_steps, nat_tests)
+
+  -- a call on a segment
+  pub on_segment_holds : (x : Subject) (k : Label → Cell → Pages → Judgement) → ((l : Label) (c : Cell) (ps : Pages) → Holds P (k l c ps)) → Holds P (on_segment x k)
+  on_segment_holds a1 a2 a3 = grind (arith, common_steps, nat_tests)
+
   module _ (frees : (n : ℕ) → P (free_number n)) (o : Orders) (me : Label) (known : ℕ → Known) where
     -- through a free number nothing is done but freeing
     pub free_holds : (r : Request) → Holds P (judge o me known is_free_number r)

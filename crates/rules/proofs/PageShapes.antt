@@ -1,7 +1,7 @@
 -- A segment has sixteen pages, and a present page sixteen words.
 use Rattle.std.proofs.lemmas.Grind.{common_steps}
 use Rattle.std.proofs.lemmas.Bool.Decides.{nat_tests}
-use Rattle.std.proofs.Common.{◌≡◌, ℕ, ◌+◌, ◌*◌, ◌/◌, ◌≤◌, true, ltb, leb, List, [], ◌∷◌, length, Some, None, Ok, Err, Option, Result, refl, subst, arith, ltb-true}
+use Rattle.std.proofs.Common.{◌≡◌, ℕ, ◌+◌, ◌*◌, ◌/◌, ◌≤◌, true, ltb, leb, List, [], ◌∷◌, length, ℤ, Some, None, Ok, Err, Option, Result, refl, subst, arith, ltb-true}
 use Rattle.labels.specs.declared.label.Label.{Label}
 use Rattle.frames.specs.Faults.{FrameFault}
 use Rattle.frames.specs.Requests.{Request}
@@ -10,11 +10,11 @@ use Rattle.labels.specs.Labels.{Orders}
 use Rattle.frames.specs.Ranges.{InRange}
 use Rattle.rules.specs.Indexed.{tabulate}
 use Rattle.rules.specs.Segments.{Page, absent, present, Pages, touched, word_after}
-use Rattle.rules.specs.Tree.{Tree, empty, segment, directory, Path, at}
+use Rattle.rules.specs.Tree.{Cell, Tree, empty, segment, directory, Path, at}
 use Rattle.rules.specs.Cells.{charge}
 use Rattle.rules.specs.KnownNumbers.{Known}
-use Rattle.rules.specs.Changes.{PlaceChange, create, remove, regrant, Change, change_place, write_words, keep_pages, places_after, pages_after, changed, Effect, no_change, set_number, free_number, change, Store, tree_after}
-use Rattle.rules.specs.Calls.{Subject, subject, judge, first_number}
+use Rattle.rules.specs.Changes.{PlaceChange, create, remove, regrant, Change, change_place, write_words, keep_pages, with_grant, place_after, places_after, pages_after, changed, Effect, no_change, set_number, free_number, change, Store, tree_after}
+use Rattle.rules.specs.Calls.{Subject, subject, judge_move, judge, first_number}
 use Rattle.rules.specs.Setup.{Setup, opened, nth}
 use Rattle.rules.specs.Responses.{RawCall, effect_of, path_of, verdict, left_by, after}
 use Rattle.rules.specs.Histories.{after_all}
@@ -69,6 +69,12 @@ shaped_pages_after (keep_pages n) ps h s k = (
   λ b. by_cases (λ y. y ≡ absent) (ltb k n) (ps k) absent (λ e. (s k).1 b) (λ e. refl),
 )
 
+shaped_granted : (a b : ℕ) (t : Tree) → Shaped t → Shaped (with_grant a b t)
+shaped_granted a1 a2 a3 a4 = grind (arith, common_steps, nat_tests)
+
+shaped_place : (x : PlaceChange) (t : Tree) → ShapingPlace x → Shaped t → Shaped (place_after x t)
+shaped_place a1 a2 a3 a4 = grind (arith, common_steps, nat_tests)
+
 shaped_places : (x : Change) (places : ℕ → Tree) → Shaping x → ((i : ℕ) → Shaped (places i)) → (i : ℕ) → Shaped (places_after x places i)
 shaped_places a1 a2 a3 a4 a5 = grind (arith, common_steps, nat_tests)
 
@@ -80,6 +86,9 @@ shaped_updated x a b (i ∷ q) empty h s = tt
 shaped_updated x a b (i ∷ q) (segment ps) h s = s
 shaped_updated x a b (i ∷ q) (directory l c places) h s =
     λ j. assign_cases Shaped places i (updated (charge a b) (changed x) q (places i)) j (λ p. shaped_updated x a b q (places i) h (s i)) (s j)
+
+move_shaping : (l : Label) (c : Cell) (e : ℕ) (y : Tree) (a : ℤ) → Holds ShapingEffect (judge_move l c e y a)
+move_shaping a1 a2 a3 a4 a5 = grind (arith, common_steps, nat_tests)
 
 shaping : (o : Orders) (me : Label) (known : ℕ → Known) (x : Subject) (r : Request) → InRange r → Holds ShapingEffect (judge o me known x r)
 unfolding judge

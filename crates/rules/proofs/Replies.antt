@@ -3,19 +3,21 @@ use Rattle.std.proofs.lemmas.Grind.{common_steps}
 use Rattle.std.proofs.lemmas.Bool.Decides.{nat_tests}
 use Rattle.std.proofs.Common.{◌≡◌, ℕ, zero, suc, ◌+◌, ◌≤◌, Bool, true, false, cond, List, [], length, ℤ, Some, None, Ok, Err, Option, Result, sym, refl, ap, subst, arith}
 use Rattle.labels.specs.declared.label.Label.{Label}
-use Rattle.frames.specs.Faults.{FrameFault}
+use Rattle.frames.specs.declared.fault.Flaw.{Flaw}
+use Rattle.frames.specs.Faults.{FrameFault, flaw_number}
 use Rattle.frames.specs.Requests.{Request, create_segment, create_directory, make_known, terminate, read, write, truncate, delete, move_quota, status, quota, reply_words}
 use Rattle.frames.specs.Decode.{decode}
 use Rattle.labels.specs.Labels.{Orders}
-use Rattle.rules.specs.Denials.{fault}
+use Rattle.rules.specs.declared.denial.Denial.{Denial}
+use Rattle.rules.specs.Denials.{denial_number, fault}
 use Rattle.rules.specs.Indexed.{tabulate}
 use Rattle.rules.specs.Segments.{Pages, segment_word}
-use Rattle.rules.specs.Tree.{Cell, Tree}
+use Rattle.rules.specs.Tree.{Cell, Tree, Path}
 use Rattle.rules.specs.KnownNumbers.{Known}
-use Rattle.rules.specs.Changes.{Store}
-use Rattle.rules.specs.Calls.{Judgement, deny, done, require, Subject, subject, on_directory, on_segment, values, status_values, judge_move, judge, first_number, settled}
+use Rattle.rules.specs.Changes.{Store, store_after}
+use Rattle.rules.specs.Calls.{Verdict, Judgement, deny, done, require, Subject, subject, on_directory, on_segment, values, status_values, judge_move, judge, first_number, settled}
 use Rattle.rules.specs.Setup.{Setup, nth}
-use Rattle.rules.specs.Responses.{RawCall, Response, response, judged, response_to, left_by}
+use Rattle.rules.specs.Responses.{RawCall, Response, response, judged, effect_of, response_to, left_by}
 use Rattle.rules.specs.Histories.{layer_of, RepliesExact}
 use Rattle.frames.proofs.Frames.{decodes_in_range}
 
@@ -25,8 +27,20 @@ use Rattle.frames.proofs.Frames.{decodes_in_range}
 abbrev Unchanged : Store → Response → Store → Type 0
 Unchanged w y w' = (y.reply.answer ≡ 0 → ⊥) → (w' ≡ w) × (y.reply.values ≡ values 0 0 0 0) × (y.words ≡ [])
 
+unchanged_by : (w : Store) (p : ℕ) (q : Path) (v : Verdict) → Unchanged w (judged v) (store_after p q (effect_of v) w)
+unchanged_by a1 a2 a3 a4 a5 = grind (arith, common_steps, nat_tests)
+
 unchanged : (s : Setup) (w : Store) (m : Option Label) (p : ℕ) (d : Result Request FrameFault) → Unchanged w (response_to s w m p d) (left_by s w m p d)
 unchanged a1 a2 a3 a4 a5 a6 = grind (arith, common_steps, nat_tests)
+
+layer_of_flaw : (f : Flaw) → 1 ≡ layer_of (flaw_number f)
+layer_of_flaw a1 = grind (arith, common_steps, nat_tests)
+
+layer_of_denial : (d : Denial) → 2 ≡ layer_of (denial_number d)
+layer_of_denial a1 = grind (arith, common_steps, nat_tests)
+
+judged_layer : (v : Verdict) → (judged v).reply.layer ≡ layer_of (judged v).reply.answer
+judged_layer a1 = grind (arith, common_steps, nat_tests)
 
 layered : (s : Setup) (w : Store) (m : Option Label) (p : ℕ) (d : Result Request FrameFault) → (response_to s w m p d).reply.layer ≡ layer_of (response_to s w m p d).reply.answer
 layered a1 a2 a3 a4 a5 = grind (arith, common_steps, nat_tests)

@@ -9,7 +9,7 @@ use Rattle.rules.specs.declared.denial.Denial.TheVariants.{OtherLabel, WrongPlac
 use Rattle.rules.specs.Denials.{fault}
 use Rattle.labels.specs.Labels.{same_label, Orders, LawfulOrders, valid, below}
 use Rattle.rules.specs.Indexed.{assign}
-use Rattle.rules.specs.Tree.{Cell, Tree, empty, segment, directory, Path, at, new_segment, new_directory, is_empty, label_in, sort_of}
+use Rattle.rules.specs.Tree.{Cell, Tree, empty, segment, directory, Path, at, new_segment, new_directory, is_empty, label_in, sort_of, grant_of}
 use Rattle.rules.specs.Cells.{cost, cell_used, find, charge, has_cell}
 use Rattle.rules.specs.KnownNumbers.{Known, is_free}
 use Rattle.rules.specs.Changes.{PlaceChange, create, remove, regrant, Change, change_place, write_words, keep_pages, with_grant, place_after, places_after, changed, map_cell, no_change, set_number, change}
@@ -82,6 +82,9 @@ module _ (o : Orders) (bound : Label) where
 
   sort_of_seen : (t : Tree) → sort_of (see t) ≡ sort_of t
   sort_of_seen a1 = grind (arith, common_steps, nat_tests)
+
+  grant_of_stub : (c : Option Cell) → grant_of (map_cell stub c) ≡ grant_of c
+  grant_of_stub a1 = grind (arith, common_steps, nat_tests)
 
   status_seen : (l : Label) (t : Tree) → status_values l (see t) ≡ status_values l t
   status_seen a1 a2 = grind (arith, common_steps, nat_tests)

@@ -5,3 +5,4 @@ mod denial;
 pub mod laws;
 
 pub use denial::{Denial, StoreFault};
+pub use frames::fault::Reason;

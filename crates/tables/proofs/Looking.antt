@@ -11,7 +11,7 @@ use Rattle.tables.specs.declared.sixteen.Sixteen.{Sixteen}
 use Rattle.tables.specs.declared.table.Table.{Table}
 use Rattle.tables.specs.Bodies.{body_of}
 use Rattle.tables.specs.Links.{link, no_links}
-use Rattle.tables.specs.Objects.{node_of, view, look, table_size, Changed}
+use Rattle.tables.specs.Objects.{node_of, view, look, table_size, change_at, Changed}
 use Rattle.tables.specs.Sixteens.{with_value}
 use Rattle.tables.proofs.Items.{items_set, value_changed}
 
@@ -30,10 +30,14 @@ view_set os i o h =
 pub looked : (t : Table) (i : ℕ) (o : Object) → i < table_size t → o ≡ get_or (vec_items t.objects) i o → node_of o ≡ look t i
 looked t i o h e = sym (view_read (vec_items t.objects) i o (table_long t i h) e)
 
+-- o was read at i, and o', which as a node is f of it, stands there
+pub look_changed : (t : Table) (i : ℕ) (o o' : Object) (f : Node → Node) → i < table_size t → o ≡ get_or (vec_items t.objects) i o → node_of o' ≡ f (node_of o) → view (set (vec_items t.objects) i o') ≡ change_at (look t) i f
+look_changed t i o o' f h e q = view_set (vec_items t.objects) i o' (table_long t i h) ∙ ap (assign (look t) i) (q ∙ ap f (looked t i o h e))
+
 -- o was read at i, and became o', which as a node is f of it
 pub changed_at : (t u : Table) (i : ℕ) (o o' : Object) (f : Node → Node) → i < table_size t → o ≡ get_or (vec_items t.objects) i o → u.objects ≡ with_item t.objects i o' → node_of o' ≡ f (node_of o) → Changed t u i f
 changed_at t u i o o' f h e is q = record {
-  after = ap (λ (v : Vec Object Global). view (vec_items v)) is ∙ view_set (vec_items t.objects) i o' (table_long t i h) ∙ ap (assign (look t) i) (q ∙ ap f (looked t i o h e));
+  after = ap (λ (v : Vec Object Global). view (vec_items v)) is ∙ look_changed t i o o' f h e q;
   size = ap (λ (v : Vec Object Global). vec_len v) is;
 }
 

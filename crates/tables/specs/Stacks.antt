@@ -1,18 +1,18 @@
 -- A stack of numbers: how high it is, and what stands on each level. Assumes nothing.
-use Rattle.std.specs.Prelude.{◌≡◌, ℕ, ◌+◌, ◌-◌, ◌<◌, vec_items, vec_len, vec_capacity, slice_index}
+use Rattle.std.specs.Prelude.{◌≡◌, ℕ, ◌+◌, ◌-◌, ◌<◌, vec_items, vec_len, slice_index}
 use Rattle.tables.specs.declared.stack.Stack.{Stack}
 
 -- how many numbers it has
 abbrev pub stack_height : Stack → ℕ
-stack_height s = vec_len s.at
+stack_height s = s.height
 
--- the number on a level, below the height; from there on there is none, and 0 stands for it
+-- the number on a level; what stands above the height is not on the stack
 abbrev pub stack_item : Stack → ℕ → ℕ
 stack_item s x = slice_index (vec_items s.at) x
 
 -- how many numbers it has room for
 abbrev pub stack_room : Stack → ℕ
-stack_room s = vec_capacity s.at
+stack_room s = vec_len s.at
 
 -- it is full, and gives low first, then the next numbers, count in all
 pub record CountsDown (low count : ℕ) (s : Stack) : Type 0 where

@@ -4,7 +4,6 @@ ghost use Rattle.tables.specs.Forgotten.{forgotten};
 ghost use Rattle.tables.specs.KnownTables.{known_at, first_known};
 
 use crate::known::Known;
-use crate::nibble::Nibble;
 use crate::sixteen::Sixteen;
 
 /// A process's sixteen known numbers.
@@ -16,7 +15,7 @@ impl KnownTable {
         ensures { known_at result ≡ first_known }
     {
         let mut table = Sixteen::filled(Known::Free);
-        *table.slot(Nibble::new(0)) = Known::Means(0);
+        *table.slot(0) = Known::Means(0);
         table
     }
 

@@ -28,6 +28,8 @@ impl Links {
     pub fn count(&self) -> u32
         ensures { result ≡ sum 16 (λ k. has (link self.now k)) }
     {
-        self.at.iter().filter(|number| number.is_some()).count() as u32
+        (0..16)
+            .map(|index| u32::from(self.find(index).is_some()))
+            .sum()
     }
 }

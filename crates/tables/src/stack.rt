@@ -1,47 +1,12 @@
 //! A stack of numbers that are free.
-ghost use Rattle.std.specs.Prelude.{◌≡◌, ◌+◌, ◌-◌, ◌^◌, ◌<◌, ◌≤◌, IfOk};
-ghost use Rattle.rules.specs.Indexed.{assign};
-ghost use Rattle.tables.specs.Stacks.{stack_item, stack_height, stack_room, CountsDown};
+ghost use Rattle.std.specs.Prelude.{◌≤◌, vec_len};
 
-use std::alloc::{AllocError, Global};
+mod methods;
 
-/// A stack of numbers that are free. It has room for a fixed count of them: the capacity of its `Vec`, which never grows.
+/// A stack of numbers that are free. It has room for a fixed count of them.
 #[derive(Drop)]
 pub struct Stack {
     at: Vec<usize>,
-}
-
-impl Stack {
-    /// A full stack of `count` numbers, which gives `low` first, and then each next one.
-    pub fn counting_down(heap: Global, low: usize, count: usize) -> Result<Stack, AllocError>
-        requires { low + count < 2 ^ 64 }
-        ensures { IfOk result (CountsDown low count) }
-    {
-        let mut at = Vec::with_capacity(heap, count)?;
-        for number in (low..low + count).rev() {
-            at.push_reserved(number);
-        }
-        Ok(Stack { at })
-    }
-
-    /// Takes the number on top.
-    pub fn pop(&mut self) -> usize
-        requires { 1 ≤ stack_height self.old }
-        ensures value { result ≡ stack_item self.old (stack_height self.old - 1) }
-        ensures height { stack_height self.new + 1 ≡ stack_height self.old }
-        ensures items { stack_item self.new ≡ assign (stack_item self.old) (stack_height self.new) 0 }
-        ensures room { stack_room self.new ≡ stack_room self.old }
-    {
-        self.at.pop().unwrap()
-    }
-
-    /// Puts a number on top.
-    pub fn push(&mut self, number: usize)
-        requires { stack_height self.old < stack_room self.old }
-        ensures height { stack_height self.new ≡ stack_height self.old + 1 }
-        ensures items { stack_item self.new ≡ assign (stack_item self.old) (stack_height self.old) number }
-        ensures room { stack_room self.new ≡ stack_room self.old }
-    {
-        self.at.push_reserved(number);
-    }
+    height: usize,
+    ghost bounded: { height ≤ vec_len at },
 }

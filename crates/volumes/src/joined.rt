@@ -25,13 +25,9 @@ impl<A: Volume, B: Volume> Joined<A, B> {
     fn half_of(&self, page: usize) -> Option<Half>
         ensures { result ≡ half_of (pages_in (A.Volume.words self.now.first)) page }
     {
-        let first = self.first.pages();
-        if page < first {
-            Some(Half::First(page))
-        } else if page < MAX_PAGES {
-            Some(Half::Second(page - first))
-        } else {
-            None
+        match page.checked_sub(self.first.pages()) {
+            None => Some(Half::First(page)),
+            Some(at) => (page < MAX_PAGES).then_some(Half::Second(at)),
         }
     }
 }

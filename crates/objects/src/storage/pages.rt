@@ -21,7 +21,7 @@ impl Storage {
         requires { index < table_size self.now.table }
         ensures { result ≡ is_some ((look self.now.table index).page page.value) }
     {
-        self.table.page(index, page).is_some()
+        self.table.page(index, page.value).is_some()
     }
 
     /// How many pages of an object, numbered `keep` and up, are present.
@@ -40,8 +40,8 @@ impl Storage {
         requires { index < table_size self.old.table }
         ensures { ChangesPages self.old self.new index (λ n. with_page n page.value None) }
     {
-        if let Some(number) = self.table.page(index, page) {
-            self.table.set_page(index, page, None);
+        if let Some(number) = self.table.page(index, page.value) {
+            self.table.set_page(index, page.value, None);
             self.spare.push(number);
         }
     }
@@ -66,11 +66,11 @@ impl Storage {
         ensures changed { ChangesPages self.old self.new index (λ n. with_page n page.value (Some (number_of result))) }
         ensures height { stack_height self.new.spare + (1 - has ((look self.old.table index).page page.value)) ≡ stack_height self.old.spare }
     {
-        match self.table.page(index, page) {
+        match self.table.page(index, page.value) {
             Some(number) => VolumePage::Held(number),
             None => {
                 let number = self.spare.pop();
-                self.table.set_page(index, page, Some(number));
+                self.table.set_page(index, page.value, Some(number));
                 VolumePage::Fresh(number)
             }
         }

@@ -23,7 +23,7 @@ impl Storage {
         requires { index < table_size self.now.table }
         ensures { result ≡ (touched extent.entry.first (length extent.entry.words.now) page.value && is_none ((look self.now.table index).page page.value)) }
     {
-        extent.touches(page) && self.table.page(index, page).is_none()
+        extent.touches(page) && self.table.page(index, page.value).is_none()
     }
 
     /// How many absent pages of an object have one of the words.

@@ -5,7 +5,6 @@ ghost use Rattle.arrayvec.specs.ArrayVec.{array_vec_len};
 ghost use Rattle.arrayvec.specs.Lends.{lends_item};
 ghost use Rattle.tables.specs.Sixteens.{value_at, lends_value};
 
-use crate::nibble::Nibble;
 use crate::sixteen::Sixteen;
 use arrayvec::ArrayVec;
 
@@ -20,17 +19,19 @@ impl<T: Copy> Sixteen<T> {
     }
 
     /// The value at an index.
-    pub fn find(&self, index: Nibble) -> T
-        ensures { (d : T) → result ≡ value_at self.now d index.value }
+    pub fn find(&self, index: usize) -> T
+        requires { index < 16 }
+        ensures { (d : T) → result ≡ value_at self.now d index }
     {
-        self.at[index.value]
+        self.at[index]
     }
 
     /// The value at an index, lent to be changed.
-    pub fn slot(&mut self, index: Nibble) -> &mut T
-        ensures* { sem 𝓛 (lends_value T.row self.entry index.value result) }
+    pub fn slot(&mut self, index: usize) -> &mut T
+        requires { index < 16 }
+        ensures* { sem 𝓛 (lends_value T.row self.entry index result) }
     {
-        item_mut(&mut self.at, index.value)
+        item_mut(&mut self.at, index)
     }
 }
 

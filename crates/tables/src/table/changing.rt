@@ -8,7 +8,6 @@ ghost use Rattle.tables.specs.Bodies.{body_of};
 ghost use Rattle.tables.specs.Objects.{look, table_size, Changed, ChangesBody};
 
 use crate::body::Body;
-use crate::nibble::Nibble;
 use crate::table::Table;
 
 impl Table {
@@ -58,17 +57,19 @@ impl Table {
     }
 
     /// Says which object is at a place of the object, if any.
-    pub fn set_entry(&mut self, index: usize, place: Nibble, to: Option<usize>)
-        requires { index < table_size self.old }
-        ensures { Changed self.old self.new index (λ n. with_entry n place.value to) }
+    pub fn set_entry(&mut self, index: usize, place: usize, to: Option<usize>)
+        requires index { index < table_size self.old }
+        requires place { place < 16 }
+        ensures { Changed self.old self.new index (λ n. with_entry n place to) }
     {
         *self.objects[index].entries.slot(place) = to;
     }
 
     /// Says which volume page serves a page of the object, if any.
-    pub fn set_page(&mut self, index: usize, page: Nibble, to: Option<usize>)
-        requires { index < table_size self.old }
-        ensures { Changed self.old self.new index (λ n. with_page n page.value to) }
+    pub fn set_page(&mut self, index: usize, page: usize, to: Option<usize>)
+        requires index { index < table_size self.old }
+        requires page { page < 16 }
+        ensures { Changed self.old self.new index (λ n. with_page n page to) }
     {
         *self.objects[index].pages.slot(page) = to;
     }

@@ -6,7 +6,6 @@ ghost use Rattle.tables.specs.Bodies.{body_of};
 ghost use Rattle.tables.specs.Objects.{look, table_size};
 
 use crate::body::Body;
-use crate::nibble::Nibble;
 use crate::table::Table;
 
 impl Table {
@@ -58,17 +57,19 @@ impl Table {
     }
 
     /// The object at a place of the object, if one is there.
-    pub fn entry(&self, index: usize, place: Nibble) -> Option<usize>
-        requires { index < table_size self.now }
-        ensures { result ≡ (look self.now index).entry place.value }
+    pub fn entry(&self, index: usize, place: usize) -> Option<usize>
+        requires index { index < table_size self.now }
+        requires place { place < 16 }
+        ensures { result ≡ (look self.now index).entry place }
     {
         self.objects[index].entries.find(place)
     }
 
     /// The volume page of a page of the object, if it is present.
-    pub fn page(&self, index: usize, page: Nibble) -> Option<usize>
-        requires { index < table_size self.now }
-        ensures { result ≡ (look self.now index).page page.value }
+    pub fn page(&self, index: usize, page: usize) -> Option<usize>
+        requires index { index < table_size self.now }
+        requires page { page < 16 }
+        ensures { result ≡ (look self.now index).page page }
     {
         self.objects[index].pages.find(page)
     }

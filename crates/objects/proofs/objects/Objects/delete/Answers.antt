@@ -26,14 +26,11 @@ charge-requires c =
 pub set_entry-requires : goal.set_entry-requires
 set_entry-requires c =
     let h = (formed c.args.self.now.kept).down c.args.directory c.args.place c.args.child c.requires.there in
-    within_both c.args.self.now.storage c.charge.new.self c.args.directory c.charge.ensures.spare (dir_live _ h.whole)
-
-pub new-requires : goal.new-requires
-new-requires c = ((formed c.args.self.now.kept).down c.args.directory c.args.place c.args.child c.requires.there).within
+    record { index = within_both c.args.self.now.storage c.charge.new.self c.args.directory c.charge.ensures.spare (dir_live _ h.whole); place = h.within }
 
 -- the place is empty
 emptied : (c : After-set_entry) → look c.set_entry.new.self ≡ change_at (look c.charge.new.self.table) c.args.directory (λ n. with_entry n c.args.place None)
-emptied c = c.set_entry.ensures.after ∙ ap (λ (e : ℕ). change_at (look c.charge.new.self.table) c.args.directory (λ n. with_entry n e None)) c.new.ensures
+emptied c = c.set_entry.ensures.after
 
 -- the table before the marked objects leave use
 unlinked : (c : After-set_entry) → look c.set_entry.new.self ≡ unlinking c.weights-back.result (look c.args.self.now.storage.table) c.args.directory c.args.place

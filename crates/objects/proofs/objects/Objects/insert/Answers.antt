@@ -1,6 +1,5 @@
 -- What is left to show of `insert`.
 use Rattle.std.proofs.Common.{◌≡◌, ℕ, ◌+◌, ◌-◌, ◌<◌, ◌≤◌, cond, refl, ap, ◌∙◌, subst, arith}
-use Rattle.rules.specs.Indexed.{assign}
 use Rattle.forest.specs.Nodes.{with_place, celled}
 use Rattle.forest.proofs.Depth.{dir_live}
 use Rattle.forest.proofs.Inserting.{top_unused, top_within, insertion, insertion_kept}
@@ -12,7 +11,6 @@ use Rattle.tables.specs.Objects.{look, table_size, change_at}
 use Rattle.tables.specs.Stacks.{stack_item, stack_height, stack_room}
 use Rattle.objects.specs.Storing.{IsKept}
 use Rattle.objects.proofs.Charging.{can_charge}
-use Rattle.objects.proofs.Popped.{kept_left}
 use Rattle.objects.proofs.Storing.{kept_over, spares_over, stored}
 use Rattle.objects.proofs.objects.Objects.insert.Goals.{After-charge, After-pop-index, After-set_place}
 use Rattle.objects.proofs.objects.Objects.insert.Goals as goal
@@ -48,11 +46,11 @@ pop-index-requires c =
 popped : (c : After-pop-index) → record {
   value : c.pop-index.result ≡ stack_item c.args.self.now.storage.unused (stack_height c.args.self.now.storage.unused - 1);
   height : stack_height c.pop-index.new.self + 1 ≡ stack_height c.args.self.now.storage.unused;
-  items : stack_item c.pop-index.new.self ≡ assign (stack_item c.args.self.now.storage.unused) (stack_height c.pop-index.new.self) 0;
+  items : stack_item c.pop-index.new.self ≡ stack_item c.args.self.now.storage.unused;
 }
 popped c =
     let e = c.pop-index.ensures in
-    subst (λ (u : Stack). record { value : c.pop-index.result ≡ stack_item u (stack_height u - 1); height : stack_height c.pop-index.new.self + 1 ≡ stack_height u; items : stack_item c.pop-index.new.self ≡ assign (stack_item u) (stack_height c.pop-index.new.self) 0 })
+    subst (λ (u : Stack). record { value : c.pop-index.result ≡ stack_item u (stack_height u - 1); height : stack_height c.pop-index.new.self + 1 ≡ stack_height u; items : stack_item c.pop-index.new.self ≡ stack_item u })
     c.charge.ensures.unused (record { value = e.value; height = e.height; items = e.items })
 
 some : (c : After-pop-index) → 1 ≤ stack_height c.args.self.now.storage.unused
@@ -99,9 +97,8 @@ kept c =
     let was = popped (goal.at.invariant_of-storage c).After-pop-index in
     kept_over {u = c.pop-index.new.self} {v = c.pop-index.new.self} (ap stack_room c.charge.ensures.spare) refl
     (spares_over c.charge.ensures.spare
-    (kept_left _ _ _ was.items
     (insertion_kept c.args.self.now.kept c.args.directory c.args.place.value c.pop-index.result c.args.taken (body_of c.args.body) (written c)
-    _ _ refl was.height was.value c.requires.fit c.requires.cost c.requires.paid)))
+    _ _ was.items was.height was.value c.requires.fit c.requires.cost c.requires.paid))
 
 pub invariant_of-storage : goal.invariant_of-storage
 invariant_of-storage c =

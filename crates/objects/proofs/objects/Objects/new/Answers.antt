@@ -5,10 +5,8 @@ use Rattle.forest.specs.Nodes.{Nodes, dir}
 use Rattle.forest.specs.Forest.{tree_of}
 use Rattle.tables.specs.Cells.{full_cell}
 use Rattle.tables.specs.Objects.{look, root_alone}
-use Rattle.tables.specs.Stacks.{stack_item}
 use Rattle.objects.specs.Storing.{IsKept}
 use Rattle.objects.proofs.Fresh.{fresh_tree, kept_as}
-use Rattle.objects.proofs.Popped.{left_below}
 use Rattle.objects.proofs.Storing.{stored}
 use Rattle.objects.proofs.objects.Objects.new.Goals.{In_ok-table}
 use Rattle.objects.proofs.objects.Objects.new.Goals as goal
@@ -23,7 +21,7 @@ kept c =
     let popped = c.pop.ensures in
     let full = unused.height in
     let taken = popped.height in ∣ kept_as c.args.root c.args.count spare.room (alone c) (omega arith) spare.height c.requires.few
-    (λ x h. let is = unused.items x (omega arith) in ap (λ f. f x) popped.items ∙ left_below (stack_item c.in_ok-unused.unused) _ x (omega arith) ∙ is ∙ omega arith)
+    (λ x h. let is = unused.items x (omega arith) in ap (λ f. f x) popped.items ∙ is ∙ omega arith)
     (λ x h. spare.items x h ∙ omega arith) ∣₁
 
 pub invariant_of-storage : goal.invariant_of-storage

@@ -1,19 +1,29 @@
 -- What is left to show of `subtree`.
-use Rattle.std.proofs.Common.{◌<◌, false, get_or, sym, subst, arith, rules, tests}
+use Rattle.std.proofs.Common.{◌≡◌, ℕ, ◌<◌, false, get_or, replicate, sym, refl, subst, arith}
 use native.Mathlib.Decide.{dec_lt}
-use Rattle.std.proofs.lemmas.List.{get_or_past}
+use lib.ListN.{get_or-replicate}
+use Rattle.std.proofs.lemmas.List.{get_or_past, length-replicate}
 use Rattle.forest.specs.Nodes.{Tells}
 use Rattle.tables.specs.Objects.{look}
 use Rattle.tables.proofs.Within.{live_within}
-use Rattle.objects.proofs.Arrays.{each_of}
 use Rattle.objects.proofs.objects.Objects.subtree.Goals as goal
 
-pub returns : goal.returns
-returns c k = go (dec_lt k 257)
+-- nothing is marked at first
+unmarked : (k : ℕ) → get_or (replicate 257 false) k false ≡ false
+unmarked k = go (dec_lt k 257)
   where
-    go : Dec (k < 257) → Tells (look c.args.self.now.storage.table) c.args.top k (get_or c.from_fn.result k false)
-    go (yes l) = each_of _ _ (Tells (look c.args.self.now.storage.table) c.args.top) (λ i y q h. search (rules, tests)) c.from_fn.result false 257 c.from_fn.ensures.items k l
+    go : Dec (k < 257) → get_or (replicate 257 false) k false ≡ false
+    go (yes l) = get_or-replicate 257 k false false l
+    go (no l) = get_or_past (replicate 257 false) k false (let e = length-replicate 257 false in omega arith)
+
+pub loop-index-init : goal.loop-index-init
+loop-index-init c = (refl, λ k l. absurd (omega arith), λ k l. unmarked k)
+
+pub returns : goal.returns
+returns c k = go (dec_lt k c.loop-index.index)
+  where
+    go : Dec (k < c.loop-index.index) → Tells (look c.args.self.now.storage.table) c.args.top k (get_or c.loop-index.marks k false)
+    go (yes l) = c.loop-index.invariant.1 k l
     go (no n) =
-        let long = c.from_fn.ensures.items.long in
-        subst (Tells (look c.args.self.now.storage.table) c.args.top k) (sym (get_or_past c.from_fn.result k false (omega arith)))
-        (λ l u. let low = live_within c.args.self.now.storage.table k l in let few = c.args.self.now.storage.table.few in n (omega arith))
+        subst (Tells (look c.args.self.now.storage.table) c.args.top k) (sym (c.loop-index.invariant.2 k (omega arith)))
+        (λ l u. let w = live_within c.args.self.now.storage.table k l in let e = c.len-index-end.ensures in n (omega arith))

@@ -6,7 +6,6 @@ use Rattle.forest.specs.Spares.{Served}
 use Rattle.forest.proofs.Serving.{page_taken}
 use Rattle.tables.specs.Objects.{look}
 use Rattle.tables.specs.Stacks.{stack_item, stack_height, stack_room}
-use Rattle.objects.proofs.Popped.{served_left}
 use Rattle.objects.proofs.Storing.{stocked_page, served_as}
 use Rattle.objects.proofs.storage.Storage.ensure_page.Goals.{After-pop-number}
 use Rattle.objects.proofs.storage.Storage.ensure_page.Goals as goal
@@ -43,10 +42,9 @@ invariant_of-self c =
       roomy = omega arith;
       stocked = stocked_page a b i k (Some c.pop-number.result) after room s.stocked;
       served =
-          served_as room refl refl
-          (served_left _ _ _ c.pop-number.ensures.items
+          served_as room c.pop-number.ensures.items refl
           (∥∥₁_map (was before) (page_taken a b (stack_room s.spare) (stack_item s.spare) (stack_height c.pop-number.new.self) i k (Some c.pop-number.result)
-          (omega arith) c.args.page.small after (sym c.page.ensures ∙ c.in-None.is) (ap Some (top before)))));
+          (omega arith) c.args.page.small after (sym c.page.ensures ∙ c.in-None.is) (ap Some (top before))));
     }
 
 pub returns-in-Some-clause-low : goal.returns-in-Some-clause-low

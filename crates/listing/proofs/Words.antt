@@ -36,6 +36,20 @@ pub behind_one_more : (ws : List ℕ) (w : ℕ) (o : Option (List ℕ)) → behi
 behind_one_more ws w None = refl
 behind_one_more ws w (Some vs) = ap (λ us. Some us) (append_assoc ws (w ∷ []) vs)
 
+-- xs is what is left, behind the words ws, of all, and its next piece is cut off
+module _ (ws xs all : List ℕ) (so : behind ws (words_in xs) ≡ words_in all) (size : ℕ) (nine : size ≡ 9) (piece rest : List ℕ) (cut : (xs ≡ piece ++ rest) × (length piece ≡ min size (length xs)) × (0 < length xs)) where
+  piece_leads_on : behind ws (before (word_in piece) (words_in rest)) ≡ words_in all
+  piece_leads_on =
+      let same : length xs ≡ length (piece ++ rest) = ap length cut.0 in
+      sym (ap (behind ws) (ap words_in cut.0 ∙ piece_is_first_word piece rest (omega arith) (omega arith))) ∙ so
+
+  pub next_word_adds : (w : ℕ) → word_in piece ≡ Some w → (us : List ℕ) → us ≡ ws ++ w ∷ [] → behind us (words_in rest) ≡ words_in all
+  next_word_adds w e us pushed =
+      ap (λ vs. behind vs (words_in rest)) pushed ∙ behind_one_more ws w (words_in rest) ∙ ap (λ o. behind ws (before o (words_in rest))) (sym e) ∙ piece_leads_on
+
+  pub no_word_leaves_none : word_in piece ≡ None → words_in all ≡ None
+  no_word_leaves_none e = sym piece_leads_on ∙ ap (λ o. behind ws (before o (words_in rest))) e
+
 -- a turn of the loop over the pieces
 pub ruleset word_by_word = (piece_is_first_word, behind_one_more)
 

@@ -63,3 +63,16 @@ count_lacking first m ps n =
     let all = sum_range (λ k. cond (touched first m k && not (is_some (ps k))) 1 0) (lacks first m ps) 0 n (λ k h. lacks_is (touched first m k) (ps k)) in
     let same = ap (λ x. sum x (lacks first m ps)) (let e : 0 + n ≡ n = omega arith in e) in
     omega arith
+
+-- each index counts at most once
+pub few_counted : (p : ℕ → Bool) (a n : ℕ) → sum_by (λ k. cond (p k) 1 0) (range_with_len a n) ≤ n
+few_counted p a zero = omega arith
+few_counted p a (suc n) =
+    let rest = few_counted p (a + 1) n in
+    let first = sum_by-cons (λ k. cond (p k) 1 0) a (range_with_len (a + 1) n) in
+    let one = once (p a) in
+    omega arith
+  where
+    once : (t : Bool) → cond t 1 0 ≤ 1
+    once Bool.true = omega arith
+    once Bool.false = omega arith

@@ -27,7 +27,7 @@ impl Extent<'_> {
     pub(crate) fn word(self, at: usize) -> Option<u32>
         ensures { (old : ℕ) → unwrap_or result old ≡ word_over self.entry.first self.entry.words.now at old }
     {
-        let offset = at.checked_sub(self.first)?;
-        self.words.get(offset).copied()
+        let there = self.first <= at && at < self.first + self.words.len();
+        there.then(|| self.words[at - self.first])
     }
 }

@@ -1,8 +1,6 @@
 -- Counting the numbers that are there.
-use Rattle.std.proofs.Common.{◌≡◌, ℕ, zero, suc, ◌+◌, ◌≤◌, cond, List, ◌∷◌, length, get_or, true, false, count_by, sum_by, is_some, Some, None, Option, sym, refl, ap, add-one, ◌∙◌, add-zero, zero-add, arith}
-use Rattle.std.specs.List.{range_with_len}
+use Rattle.std.proofs.Common.{◌≡◌, ℕ, zero, suc, ◌+◌, cond, List, ◌∷◌, length, get_or, true, false, count_by, is_some, Some, None, Option, sym, refl, ap, add-one, ◌∙◌, zero-add, arith}
 use Rattle.std.proofs.lemmas.List.Recursion.{is_count_by}
-use Rattle.std.proofs.lemmas.List.Sums.{sum_by-cons}
 use Rattle.rules.specs.Indexed.{sum}
 use Rattle.forest.specs.Forest.{has}
 
@@ -34,30 +32,3 @@ there_more (Some n) xs = sum_first (length xs) (λ k. has (get_or (Some n ∷ xs
 pub count_there : (xs : List (Option ℕ)) → count_by is_some xs ≡ there xs
 unfolding sum
 count_there xs = sym (is_count_by there is_some refl there_more xs)
-
--- the n indices from a on, after those below a
-pub sum_indices : (f : ℕ → ℕ) (a n : ℕ) → sum_by f (range_with_len a n) + sum a f ≡ sum (a + n) f
-sum_indices f a zero = let same = ap (λ m. sum m f) (add-zero a) in omega arith
-sum_indices f a (suc n) =
-    let rest = sum_indices f (a + 1) n in
-    let first = sum_by-cons f a (range_with_len (a + 1) n) in
-    let next = sum_next a f in
-    let more : a + 1 + n ≡ a + suc n = omega arith in
-    let same = ap (λ m. sum m f) more in
-    omega arith
-
-pub sum_range : (n : ℕ) (f : ℕ → ℕ) → sum_by f (range_with_len 0 n) ≡ sum n f
-unfolding sum
-sum_range n f =
-    let all = sum_indices f 0 n in
-    let same = ap (λ m. sum m f) (let e : 0 + n ≡ n = omega arith in e) in
-    omega arith
-
-pub has_few : (o : Option ℕ) → has o ≤ 1
-has_few None = omega arith
-has_few (Some n) = omega arith
-
-pub sum_few : (n : ℕ) (f : ℕ → ℕ) → ((k : ℕ) → f k ≤ 1) → sum n f ≤ n
-unfolding sum
-sum_few zero f few = omega arith
-sum_few (suc n) f few = let rest = sum_few n f few in let one = few n in omega arith

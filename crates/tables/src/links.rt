@@ -28,8 +28,12 @@ impl Links {
     pub fn count(&self) -> u32
         ensures { result ≡ sum 16 (λ k. has (link self.now k)) }
     {
-        (0..16)
-            .map(|index| u32::from(self.find(index).is_some()))
-            .sum()
+        let mut count = 0;
+        for index in 0..16 {
+            if self.find(index).is_some() {
+                count += 1;
+            }
+        }
+        count
     }
 }

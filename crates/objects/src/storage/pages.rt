@@ -31,8 +31,11 @@ impl Storage {
         ensures value { result ≡ sum 16 (λ k. (if nat_lt k keep then 0 else has ((look self.now.table index).page k))) }
         ensures few { result ≤ 16 }
     {
-        let present = (keep..PAGES).filter(|page| self.is_present(index, Nibble::new(*page)));
-        present.count() as u32
+        let present = (keep..PAGES).map(|page| u32::from(self.is_present(
+            index,
+            Nibble::new(page),
+        )));
+        present.sum()
     }
 
     /// A page becomes absent, if it is not already, and the volume page that served it serves nothing any more.

@@ -27,7 +27,7 @@ impl Storage {
         ensures after { (k : ℕ) → look self.new.table k ≡ (if get_or marks.now k false then cleared (look self.old.table k) else look self.old.table k) }
         ensures room { stack_room self.new.spare ≡ stack_room self.old.spare }
     {
-        for (index, marked) in marks.iter().enumerate() {
+        for (index, marked) in marks[..self.table.len()].iter().enumerate() {
             if *marked {
                 self.release(index);
             }

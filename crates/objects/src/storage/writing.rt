@@ -32,8 +32,12 @@ impl Storage {
         ensures value { result ≡ sum 16 (lacks extent.entry.first (length extent.entry.words.now) (look self.now.table index).page) }
         ensures few { result ≤ 16 }
     {
-        let missing = (0..PAGES).filter(|page| self.is_missing(index, Nibble::new(*page), extent));
-        missing.count() as u32
+        let missing = (0..PAGES).map(|page| u32::from(self.is_missing(
+            index,
+            Nibble::new(page),
+            extent,
+        )));
+        missing.sum()
     }
 
     /// Writes the words that fall into one page.
